@@ -1,0 +1,24 @@
+-- Document 01, "What each operation refuses": the number of each refusal, and an answer as one number for C.
+use Prim.Native.Nat.{ℕ, _+_, _*_, _^_}
+use Rattle.answer.specs.declared.Answer.{Answer}
+use Rattle.answer.specs.declared.Answer.the-variants.{Done, Refused}
+use Rattle.answer.specs.declared.Refusal.{Refusal}
+use Rattle.answer.specs.declared.Refusal.the-variants.{Size, State, Length, Output, Width, Operand, Sheet, Opcode, Truncated, Place, SamePlace}
+
+abbrev pub refusalNumber : Refusal → ℕ
+refusalNumber Size = 1
+refusalNumber State = 2
+refusalNumber Length = 3
+refusalNumber Output = 4
+refusalNumber Width = 5
+refusalNumber Operand = 6
+refusalNumber Sheet = 7
+refusalNumber Opcode = 8
+refusalNumber Truncated = 9
+refusalNumber Place = 10
+refusalNumber SamePlace = 11
+
+-- a success's own number, or 2^32 times the refusal number plus the offset
+abbrev pub numberOf : Answer → ℕ
+numberOf (Done n) = n
+numberOf (Refused r at) = refusalNumber r * 2 ^ 32 + at

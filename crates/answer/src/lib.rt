@@ -1,0 +1,66 @@
+// What an operation of the kit answers: a success with its number, or a refusal with an offset.
+ghost use mathlib.Core.Path.{_≡_};
+ghost use Prim.Native.Nat.{_<_};
+ghost use Rattle.answer.specs.Number.{refusalNumber, numberOf};
+ghost use Rattle.answer.specs.Refuse.{isDone};
+
+// Why a call is refused. `specs/Number.antt` gives document 01's number for each.
+pub enum Refusal {
+    Size,
+    State,
+    Length,
+    Output,
+    Width,
+    Operand,
+    Sheet,
+    Opcode,
+    Truncated,
+    Place,
+    SamePlace,
+}
+
+// The offset of a refusal is that of the first byte of the first faulty command of a sheet, and 0 for a refusal that has no place.
+pub enum Answer {
+    Done(u64),
+    Refused(Refusal, u32),
+}
+
+// Document 01's number of a refusal.
+pub fn refusal_number(r: Refusal) -> u64
+    ensures { λ n. ⌜ n ≡ refusalNumber r ⌝ }
+    ensures { λ n. ⌜ n < 256 ⌝ }
+{
+    match r {
+        Refusal::Size => 1,
+        Refusal::State => 2,
+        Refusal::Length => 3,
+        Refusal::Output => 4,
+        Refusal::Width => 5,
+        Refusal::Operand => 6,
+        Refusal::Sheet => 7,
+        Refusal::Opcode => 8,
+        Refusal::Truncated => 9,
+        Refusal::Place => 10,
+        Refusal::SamePlace => 11,
+    }
+}
+
+// The answer as the one 64-bit number that C receives.
+pub fn number(a: Answer) -> u64
+    ensures { λ n. ⌜ n ≡ numberOf a ⌝ }
+{
+    match a {
+        Answer::Done(n) => n,
+        Answer::Refused(r, at) => refusal_number(r) * 4294967296 + at as u64,
+    }
+}
+
+// Whether the answer is a success.
+pub fn is_done(a: Answer) -> bool
+    ensures { λ r. ⌜ r ≡ isDone a ⌝ }
+{
+    match a {
+        Answer::Done(_) => true,
+        Answer::Refused(_, _) => false,
+    }
+}

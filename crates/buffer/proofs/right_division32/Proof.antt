@@ -1,0 +1,14 @@
+use Rattle.buffer.specs.Operation.{onBytes}
+use borrow.Author.Needs.{needs}
+use Rattle.buffer.proofs.right_division32.Statement.{statement}
+use Rattle.buffer.proofs.right_division32.Tie as tie
+
+returns : tie.Need-returns
+unfolding onBytes
+returns c = cc
+
+pub right-division32-spec : {M : Type 1} → statement M
+right-division32-spec =
+    tie.close
+    (tie.spec
+    (λ c κs. search needs) (λ c κs. search needs) (λ c κs. search needs) (λ c κs. search needs) (λ c. search needs) returns)

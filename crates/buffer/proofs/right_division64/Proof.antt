@@ -1,0 +1,14 @@
+use Rattle.buffer.specs.Operation.{onBytes}
+use borrow.Author.Needs.{needs}
+use Rattle.buffer.proofs.right_division64.Statement.{statement}
+use Rattle.buffer.proofs.right_division64.Tie as tie
+
+returns : tie.Need-returns
+unfolding onBytes
+returns c = cc
+
+pub right-division64-spec : {M : Type 1} → statement M
+right-division64-spec =
+    tie.close
+    (tie.spec
+    (λ c κs. search needs) (λ c κs. search needs) (λ c κs. search needs) (λ c κs. search needs) (λ c. search needs) returns)

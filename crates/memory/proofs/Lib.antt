@@ -1,0 +1,4 @@
+pub mod Lists
+pub mod Eight
+pub mod Bytes
+pub mod Copy

@@ -1,0 +1,1 @@
+// Document 01's starred reference points, in specs/. There is no code here.

@@ -1,0 +1,84 @@
+-- The quasigroup theorem, for every width: there is one solution, and the divisions return it.
+use mathlib.Core.Path.{_≡_, refl, sym, ap, _∙_}
+use Prim.Native.Nat.{ℕ, suc, _<_}
+use native.Mathlib.Omega.{arith}
+use mathlib.Core.List.{List}
+use lib.ListN.{length}
+use Rattle.quasigroup.specs.Tables.{Width, leftSums, rightSums, narrow, wide}
+use Rattle.quasigroup.specs.Product.{leftHalf, rightHalf, product}
+use Rattle.quasigroup.specs.Division.{leftUnxors, rightUnxors, leftInverse, rightInverse, unleft, unright, leftDivision, rightDivision}
+use Rattle.quasigroup.specs.Vector.{Below, Vector}
+use Rattle.quasigroup.specs.Theorem.{OnlySolution, Quasigroup}
+use Rattle.quasigroup.proofs.Modulo.{below-test}
+use Rattle.quasigroup.proofs.Vectors.{Undo, then, undo-on}
+use Rattle.quasigroup.proofs.Half.{Tables, half-undo, joined-comm, joined-undo}
+
+left-tables : Tables leftSums leftUnxors leftInverse
+left-tables =
+    record {
+      sums-undone = record { count = refl; wide = refl; after = refl; before = refl; columns = refl };
+      count = refl;
+      xors-undone = refl;
+      unxors-undone = refl;
+    }
+
+right-tables : Tables rightSums rightUnxors rightInverse
+right-tables =
+    record {
+      sums-undone = record { count = refl; wide = refl; after = refl; before = refl; columns = refl };
+      count = refl;
+      xors-undone = refl;
+      unxors-undone = refl;
+    }
+
+only : {w : ℕ} {f g : List ℕ → List ℕ} → Undo w f g → (b : List ℕ) → Vector w b → OnlySolution w f b (g b)
+only {g = g} u b h = record { vector = u .back b h; solves = u .right b h; unique = λ z k e. sym (u .left z k) ∙ ap g e }
+
+-- a width that the theorem holds for: at least one bit, and eight amounts a half, none above the width
+pub record Fits (s : Width) : Type 0 where
+  pub some : 0 < s .bits
+  pub left-eight : length (s .leftAmounts) ≡ 8
+  pub right-eight : length (s .rightAmounts) ≡ 8
+  pub left-within : Below (suc (s .bits)) (s .leftAmounts)
+  pub right-within : Below (suc (s .bits)) (s .rightAmounts)
+
+module _ (s : Width) (h : Fits s) where
+  left-undo : Undo (s .bits) (leftHalf s) (unleft s)
+  unfolding leftHalf unleft
+  left-undo = half-undo (s .bits) (h .some) (s .leftConstant) (s .leftAmounts) (h .left-eight) (h .left-within) leftSums leftUnxors leftInverse left-tables
+
+  right-undo : Undo (s .bits) (rightHalf s) (unright s)
+  unfolding rightHalf unright
+  right-undo = half-undo (s .bits) (h .some) (s .rightConstant) (s .rightAmounts) (h .right-eight) (h .right-within) rightSums rightUnxors rightInverse right-tables
+
+  -- the product by a from the left, and the division that undoes it
+  pub by-left : (a : List ℕ) → Vector (s .bits) a → Undo (s .bits) (product s a) (leftDivision s a)
+  unfolding product leftDivision
+  by-left a b =
+      undo-on (λ v _. joined-comm (s .bits) (rightHalf s v) (leftHalf s a)) (λ v _. refl)
+      (then right-undo (joined-undo (s .bits) (leftHalf s a) (left-undo .there a b)))
+
+  -- and from the right
+  pub by-right : (a : List ℕ) → Vector (s .bits) a → Undo (s .bits) (λ y. product s y a) (λ b. rightDivision s b a)
+  unfolding product rightDivision
+  by-right a b = then left-undo (joined-undo (s .bits) (rightHalf s a) (right-undo .there a b))
+
+  pub quasigroup : Quasigroup s
+  quasigroup =
+      record {
+        closed = λ x y hx hy. by-left x hx .there y hy;
+        left = λ a b ha hb. only (by-left a ha) b hb;
+        right = λ a b ha hb. only (by-right a ha) b hb;
+      }
+
+pub narrow-fits : Fits narrow
+narrow-fits = record { some = omega arith; left-eight = refl; right-eight = refl; left-within = below-test _ _ tt; right-within = below-test _ _ tt }
+
+pub wide-fits : Fits wide
+wide-fits = record { some = omega arith; left-eight = refl; right-eight = refl; left-within = below-test _ _ tt; right-within = below-test _ _ tt }
+
+pub narrow-quasigroup : Quasigroup narrow
+narrow-quasigroup = quasigroup narrow narrow-fits
+
+pub wide-quasigroup : Quasigroup wide
+wide-quasigroup = quasigroup wide wide-fits

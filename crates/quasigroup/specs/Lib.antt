@@ -1,0 +1,5 @@
+pub mod Tables
+pub mod Product
+pub mod Division
+pub mod Vector
+pub mod Theorem

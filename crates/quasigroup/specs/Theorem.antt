@@ -1,0 +1,19 @@
+-- 000, section 2.1: in a quasigroup a*x = b has exactly one solution x, a\b, and y*a = b exactly one solution y, b/a.
+use mathlib.Core.Path.{_≡_}
+use mathlib.Core.List.{List}
+use Prim.Native.Nat.{ℕ}
+use Rattle.quasigroup.specs.Tables.{Width}
+use Rattle.quasigroup.specs.Product.{product}
+use Rattle.quasigroup.specs.Division.{leftDivision, rightDivision}
+use Rattle.quasigroup.specs.Vector.{Vector}
+
+-- of the vectors, x is the one that f takes to b
+pub record OnlySolution (w : ℕ) (f : List ℕ → List ℕ) (b x : List ℕ) : Type 0 where
+  pub vector : Vector w x
+  pub solves : f x ≡ b
+  pub unique : (z : List ℕ) → Vector w z → f z ≡ b → z ≡ x
+
+pub record Quasigroup (s : Width) : Type 0 where
+  pub closed : (x y : List ℕ) → Vector (s .bits) x → Vector (s .bits) y → Vector (s .bits) (product s x y)
+  pub left : (a b : List ℕ) → Vector (s .bits) a → Vector (s .bits) b → OnlySolution (s .bits) (λ x. product s a x) b (leftDivision s a b)
+  pub right : (a b : List ℕ) → Vector (s .bits) a → Vector (s .bits) b → OnlySolution (s .bits) (λ y. product s y a) b (rightDivision s b a)

@@ -1,0 +1,16 @@
+use Rattle.vector.proofs.Places.{five-summed}
+use borrow.Author.Needs.{needs}
+use Rattle.vector.proofs.rotated_sum32.Statement.{statement}
+use Rattle.vector.proofs.rotated_sum32.Tie as tie
+
+returns : tie.Need-returns
+returns c = let a = c .before .before .before .before .before .before .args in cc (five-summed 32 (a .k) (a .t3) (a .t1) (search needs))
+
+pub rotated-sum32-spec : {M : Type 1} → statement M
+rotated-sum32-spec =
+    tie.close
+    (tie.spec
+    (λ c. search needs) (λ c. search needs) (λ c. search needs) (λ c. search needs) (λ c. search needs) (λ c. search needs)
+    (λ c. search needs) (λ c κs. search needs) (λ c. search needs) (λ c. search needs) (λ c κs. search needs)
+    (λ c. search needs) (λ c. search needs) (λ c κs. search needs) (λ c. search needs) (λ c. search needs)
+    (λ c κs. search needs) (λ c. search needs) (λ c. search needs) (λ c κs. search needs) (λ c κs. search needs) returns)

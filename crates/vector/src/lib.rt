@@ -1,0 +1,273 @@
+// EDON-R's product of vectors of eight words, of 32 and of 64 bits, as values.
+ghost use mathlib.Core.Path.{_≡_};
+ghost use Prim.Native.Nat.{_<_};
+ghost use lib.ListN.{getD};
+ghost use Rattle.word.specs.Word.{rotl};
+ghost use Rattle.quasigroup.specs.Tables.{leftSums, rightSums, narrow, wide};
+ghost use Rattle.quasigroup.specs.Product.{pick, sum, xor, sums, rotations, combinations, leftHalf, rightHalf, joined, product};
+
+pub mod tables;
+
+// `k` and the five words of `v` with the numbers in `p`, summed; the whole sum is then rotated by `r`.
+fn rotated_sum32(v: [u32; 8], k: u32, p: [usize; 5], r: u32) -> u32
+    requires { ⌜ getD p 0 0 < 8 ⌝ ∗ ⌜ getD p 1 0 < 8 ⌝ ∗ ⌜ getD p 2 0 < 8 ⌝ ∗ ⌜ getD p 3 0 < 8 ⌝ ∗ ⌜ getD p 4 0 < 8 ⌝ }
+    requires { ⌜ r < 32 ⌝ }
+    ensures { λ z. ⌜ z ≡ rotl 32 r (sum 32 k (pick p v)) ⌝ }
+{
+    let a = p[0];
+    let b = p[1];
+    let c = p[2];
+    let d = p[3];
+    let e = p[4];
+    let last = std::num::wrapping_add_u32(v[e], k);
+    let two = std::num::wrapping_add_u32(v[d], last);
+    let three = std::num::wrapping_add_u32(v[c], two);
+    let four = std::num::wrapping_add_u32(v[b], three);
+    word::rotate_left32(std::num::wrapping_add_u32(v[a], four), r)
+}
+
+// The XOR of the three words of `t` with the numbers in `p`.
+fn combination32(t: [u32; 8], p: [usize; 3]) -> u32
+    requires { ⌜ getD p 0 0 < 8 ⌝ ∗ ⌜ getD p 1 0 < 8 ⌝ ∗ ⌜ getD p 2 0 < 8 ⌝ }
+    ensures { λ z. ⌜ z ≡ xor (pick p t) ⌝ }
+{
+    let a = p[0];
+    let b = p[1];
+    let c = p[2];
+    t[a] ^ (t[b] ^ t[c])
+}
+
+fn left_sums32(v: [u32; 8]) -> [u32; 8]
+    ensures { λ z. ⌜ z ≡ rotations 32 (narrow .leftAmounts) (sums 32 0xaaaa_aaaa leftSums v) ⌝ }
+{
+    let p = tables::LEFT_SUMS;
+    let r = tables::AMOUNTS[0];
+    [
+        rotated_sum32(v, 0xaaaa_aaaa, p[0], r[0]),
+        rotated_sum32(v, 0, p[1], r[1]),
+        rotated_sum32(v, 0, p[2], r[2]),
+        rotated_sum32(v, 0, p[3], r[3]),
+        rotated_sum32(v, 0, p[4], r[4]),
+        rotated_sum32(v, 0, p[5], r[5]),
+        rotated_sum32(v, 0, p[6], r[6]),
+        rotated_sum32(v, 0, p[7], r[7]),
+    ]
+}
+
+fn left_combinations32(t: [u32; 8]) -> [u32; 8]
+    ensures { λ z. ⌜ z ≡ combinations leftSums t ⌝ }
+{
+    let p = tables::LEFT_XORS;
+    [
+        combination32(t, p[0]),
+        combination32(t, p[1]),
+        combination32(t, p[2]),
+        combination32(t, p[3]),
+        combination32(t, p[4]),
+        combination32(t, p[5]),
+        combination32(t, p[6]),
+        combination32(t, p[7]),
+    ]
+}
+
+// The left half of the product.
+pub fn left_half32(x: [u32; 8]) -> [u32; 8]
+    ensures { λ z. ⌜ z ≡ leftHalf narrow x ⌝ }
+{
+    left_combinations32(left_sums32(x))
+}
+
+fn right_sums32(v: [u32; 8]) -> [u32; 8]
+    ensures { λ z. ⌜ z ≡ rotations 32 (narrow .rightAmounts) (sums 32 0x5555_5555 rightSums v) ⌝ }
+{
+    let q = tables::RIGHT_SUMS;
+    let r = tables::AMOUNTS[1];
+    [
+        rotated_sum32(v, 0x5555_5555, q[0], r[0]),
+        rotated_sum32(v, 0, q[1], r[1]),
+        rotated_sum32(v, 0, q[2], r[2]),
+        rotated_sum32(v, 0, q[3], r[3]),
+        rotated_sum32(v, 0, q[4], r[4]),
+        rotated_sum32(v, 0, q[5], r[5]),
+        rotated_sum32(v, 0, q[6], r[6]),
+        rotated_sum32(v, 0, q[7], r[7]),
+    ]
+}
+
+fn right_combinations32(t: [u32; 8]) -> [u32; 8]
+    ensures { λ z. ⌜ z ≡ combinations rightSums t ⌝ }
+{
+    let q = tables::RIGHT_XORS;
+    [
+        combination32(t, q[0]),
+        combination32(t, q[1]),
+        combination32(t, q[2]),
+        combination32(t, q[3]),
+        combination32(t, q[4]),
+        combination32(t, q[5]),
+        combination32(t, q[6]),
+        combination32(t, q[7]),
+    ]
+}
+
+// The right half of the product.
+pub fn right_half32(y: [u32; 8]) -> [u32; 8]
+    ensures { λ z. ⌜ z ≡ rightHalf narrow y ⌝ }
+{
+    right_combinations32(right_sums32(y))
+}
+
+// The halves added, in the order of the result.
+fn joined32(a: [u32; 8], b: [u32; 8]) -> [u32; 8]
+    ensures { λ z. ⌜ z ≡ joined 32 a b ⌝ }
+{
+    [
+        word::add32(a[3], b[3]),
+        word::add32(a[4], b[4]),
+        word::add32(a[5], b[5]),
+        word::add32(a[6], b[6]),
+        word::add32(a[7], b[7]),
+        word::add32(a[0], b[0]),
+        word::add32(a[1], b[1]),
+        word::add32(a[2], b[2]),
+    ]
+}
+
+// The product of `x` and `y`.
+pub fn product32(x: [u32; 8], y: [u32; 8]) -> [u32; 8]
+    ensures { λ z. ⌜ z ≡ product narrow x y ⌝ }
+{
+    joined32(left_half32(x), right_half32(y))
+}
+
+// `k` and the five words of `v` with the numbers in `p`, summed; the whole sum is then rotated by `r`.
+fn rotated_sum64(v: [u64; 8], k: u64, p: [usize; 5], r: u32) -> u64
+    requires { ⌜ getD p 0 0 < 8 ⌝ ∗ ⌜ getD p 1 0 < 8 ⌝ ∗ ⌜ getD p 2 0 < 8 ⌝ ∗ ⌜ getD p 3 0 < 8 ⌝ ∗ ⌜ getD p 4 0 < 8 ⌝ }
+    requires { ⌜ r < 64 ⌝ }
+    ensures { λ z. ⌜ z ≡ rotl 64 r (sum 64 k (pick p v)) ⌝ }
+{
+    let a = p[0];
+    let b = p[1];
+    let c = p[2];
+    let d = p[3];
+    let e = p[4];
+    let last = std::num::wrapping_add_u64(v[e], k);
+    let two = std::num::wrapping_add_u64(v[d], last);
+    let three = std::num::wrapping_add_u64(v[c], two);
+    let four = std::num::wrapping_add_u64(v[b], three);
+    word::rotate_left64(std::num::wrapping_add_u64(v[a], four), r)
+}
+
+// The XOR of the three words of `t` with the numbers in `p`.
+fn combination64(t: [u64; 8], p: [usize; 3]) -> u64
+    requires { ⌜ getD p 0 0 < 8 ⌝ ∗ ⌜ getD p 1 0 < 8 ⌝ ∗ ⌜ getD p 2 0 < 8 ⌝ }
+    ensures { λ z. ⌜ z ≡ xor (pick p t) ⌝ }
+{
+    let a = p[0];
+    let b = p[1];
+    let c = p[2];
+    t[a] ^ (t[b] ^ t[c])
+}
+
+fn left_sums64(v: [u64; 8]) -> [u64; 8]
+    ensures { λ z. ⌜ z ≡ rotations 64 (wide .leftAmounts) (sums 64 0xaaaa_aaaa_aaaa_aaaa leftSums v) ⌝ }
+{
+    let p = tables::LEFT_SUMS;
+    let r = tables::AMOUNTS[2];
+    [
+        rotated_sum64(v, 0xaaaa_aaaa_aaaa_aaaa, p[0], r[0]),
+        rotated_sum64(v, 0, p[1], r[1]),
+        rotated_sum64(v, 0, p[2], r[2]),
+        rotated_sum64(v, 0, p[3], r[3]),
+        rotated_sum64(v, 0, p[4], r[4]),
+        rotated_sum64(v, 0, p[5], r[5]),
+        rotated_sum64(v, 0, p[6], r[6]),
+        rotated_sum64(v, 0, p[7], r[7]),
+    ]
+}
+
+fn left_combinations64(t: [u64; 8]) -> [u64; 8]
+    ensures { λ z. ⌜ z ≡ combinations leftSums t ⌝ }
+{
+    let p = tables::LEFT_XORS;
+    [
+        combination64(t, p[0]),
+        combination64(t, p[1]),
+        combination64(t, p[2]),
+        combination64(t, p[3]),
+        combination64(t, p[4]),
+        combination64(t, p[5]),
+        combination64(t, p[6]),
+        combination64(t, p[7]),
+    ]
+}
+
+// The left half of the product.
+pub fn left_half64(x: [u64; 8]) -> [u64; 8]
+    ensures { λ z. ⌜ z ≡ leftHalf wide x ⌝ }
+{
+    left_combinations64(left_sums64(x))
+}
+
+fn right_sums64(v: [u64; 8]) -> [u64; 8]
+    ensures { λ z. ⌜ z ≡ rotations 64 (wide .rightAmounts) (sums 64 0x5555_5555_5555_5555 rightSums v) ⌝ }
+{
+    let q = tables::RIGHT_SUMS;
+    let r = tables::AMOUNTS[3];
+    [
+        rotated_sum64(v, 0x5555_5555_5555_5555, q[0], r[0]),
+        rotated_sum64(v, 0, q[1], r[1]),
+        rotated_sum64(v, 0, q[2], r[2]),
+        rotated_sum64(v, 0, q[3], r[3]),
+        rotated_sum64(v, 0, q[4], r[4]),
+        rotated_sum64(v, 0, q[5], r[5]),
+        rotated_sum64(v, 0, q[6], r[6]),
+        rotated_sum64(v, 0, q[7], r[7]),
+    ]
+}
+
+fn right_combinations64(t: [u64; 8]) -> [u64; 8]
+    ensures { λ z. ⌜ z ≡ combinations rightSums t ⌝ }
+{
+    let q = tables::RIGHT_XORS;
+    [
+        combination64(t, q[0]),
+        combination64(t, q[1]),
+        combination64(t, q[2]),
+        combination64(t, q[3]),
+        combination64(t, q[4]),
+        combination64(t, q[5]),
+        combination64(t, q[6]),
+        combination64(t, q[7]),
+    ]
+}
+
+// The right half of the product.
+pub fn right_half64(y: [u64; 8]) -> [u64; 8]
+    ensures { λ z. ⌜ z ≡ rightHalf wide y ⌝ }
+{
+    right_combinations64(right_sums64(y))
+}
+
+// The halves added, in the order of the result.
+fn joined64(a: [u64; 8], b: [u64; 8]) -> [u64; 8]
+    ensures { λ z. ⌜ z ≡ joined 64 a b ⌝ }
+{
+    [
+        word::add64(a[3], b[3]),
+        word::add64(a[4], b[4]),
+        word::add64(a[5], b[5]),
+        word::add64(a[6], b[6]),
+        word::add64(a[7], b[7]),
+        word::add64(a[0], b[0]),
+        word::add64(a[1], b[1]),
+        word::add64(a[2], b[2]),
+    ]
+}
+
+// The product of `x` and `y`.
+pub fn product64(x: [u64; 8], y: [u64; 8]) -> [u64; 8]
+    ensures { λ z. ⌜ z ≡ product wide x y ⌝ }
+{
+    joined64(left_half64(x), right_half64(y))
+}

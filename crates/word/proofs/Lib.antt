@@ -1,0 +1,4 @@
+pub mod Modulo
+pub mod Rotation
+pub mod Inverse
+pub mod Wrapping

@@ -1,0 +1,105 @@
+/*
+ * EDON-R load kit: the calls open to C.
+ *
+ * Words and vectors
+ *   The width w is 32 or 64 bits. A vector is eight words of w bits. In bytes it takes w
+ *   bytes (32 or 64): word 0 first, each word's lowest byte first.
+ *
+ * Answers
+ *   Each call returns one 64-bit number. Below 2^32 it is a success, and the number is
+ *   what that call says it returns. Otherwise it is a refusal: 2^32 times the refusal
+ *   number, plus an offset, which is 0 unless the call says otherwise. A call refuses
+ *   when, and only when, one of its conditions holds; conditions are tried in the order
+ *   that the call lists them, and the first that holds decides. A refusal writes nothing.
+ *   A success writes the bytes that the call names and no others.
+ *
+ * What a caller must keep
+ *   The buffers of one call do not overlap, and each has the length given with it. No
+ *   call can test this, and nothing else is asked of the caller: every other argument is
+ *   checked.
+ *
+ * Threads
+ *   Nothing is kept between calls: no state, no tables filled at first use, no memory
+ *   taken. Any number of threads may call at once, each with its own buffers.
+ */
+#ifndef EDONR_H
+#define EDONR_H
+
+#include <stddef.h>
+#include <stdint.h>
+
+#ifdef __cplusplus
+extern "C" {
+#endif
+
+/* The refusal number of an answer; 0 for a success. */
+static inline uint32_t edonr_refusal(uint64_t answer)
+{
+    return (uint32_t)(answer >> 32);
+}
+
+/* The offset that stands beside a refusal number; for a success, its own number. */
+static inline uint32_t edonr_offset(uint64_t answer)
+{
+    return (uint32_t)(answer & 0xFFFFFFFFu);
+}
+
+/* The answer that a refusal gives. */
+static inline uint64_t edonr_refused(uint32_t refusal, uint32_t offset)
+{
+    return ((uint64_t)refusal << 32) + offset;
+}
+
+/* ============================ A. Product and divisions ============================ */
+
+#define EDONR_REFUSED_OUTPUT 4 /* the output is too short */
+#define EDONR_REFUSED_WIDTH 5  /* the width is neither 32 nor 64 */
+#define EDONR_REFUSED_LENGTH 6 /* what is lent as vectors has not exactly its length */
+
+/*
+ * The product X*Y of EDON-R at one width. It does not commute.
+ *
+ * Reads    x and y, a vector each.
+ * Writes   on success the first w bytes of out: the vector X*Y. Bytes behind them stay.
+ * Returns  w, that is 32 or 64.
+ * Refuses  in this order:
+ *          5 EDONR_REFUSED_WIDTH   width is neither 32 nor 64;
+ *          6 EDONR_REFUSED_LENGTH  x_len or y_len is not exactly w;
+ *          4 EDONR_REFUSED_OUTPUT  out_len is under w.
+ */
+uint64_t edonr_product(uint32_t width, const uint8_t *x, size_t x_len, const uint8_t *y,
+                       size_t y_len, uint8_t *out, size_t out_len);
+
+/*
+ * The left division a\b: the one x with a*x = b.
+ *
+ * Reads    a and b, a vector each: the left factor, then the product.
+ * Writes   on success the first w bytes of out: the vector a\b. Bytes behind them stay.
+ * Returns  w, that is 32 or 64.
+ * Refuses  in this order:
+ *          5 EDONR_REFUSED_WIDTH   width is neither 32 nor 64;
+ *          6 EDONR_REFUSED_LENGTH  a_len or b_len is not exactly w;
+ *          4 EDONR_REFUSED_OUTPUT  out_len is under w.
+ */
+uint64_t edonr_left_division(uint32_t width, const uint8_t *a, size_t a_len,
+                             const uint8_t *b, size_t b_len, uint8_t *out, size_t out_len);
+
+/*
+ * The right division b/a: the one y with y*a = b.
+ *
+ * Reads    b and a, a vector each: the product, then the right factor.
+ * Writes   on success the first w bytes of out: the vector b/a. Bytes behind them stay.
+ * Returns  w, that is 32 or 64.
+ * Refuses  in this order:
+ *          5 EDONR_REFUSED_WIDTH   width is neither 32 nor 64;
+ *          6 EDONR_REFUSED_LENGTH  b_len or a_len is not exactly w;
+ *          4 EDONR_REFUSED_OUTPUT  out_len is under w.
+ */
+uint64_t edonr_right_division(uint32_t width, const uint8_t *b, size_t b_len,
+                              const uint8_t *a, size_t a_len, uint8_t *out, size_t out_len);
+
+#ifdef __cplusplus
+}
+#endif
+
+#endif
