@@ -6,7 +6,7 @@ use Prim.Native.Nat.{ℕ}
 use Rattle.answer.specs.declared.Answer.{Answer}
 use Rattle.answer.specs.declared.Answer.the-variants.{Done, Refused}
 use Rattle.answer.specs.declared.Refusal.{Refusal}
-use Rattle.answer.specs.Refuse.{unless, isDone, left}
+use Rattle.answer.specs.Refuse.{unless, isDone, outcome}
 
 never : {A : Type 0} → _≡_ {A = Bool} false true → A
 never e = absurd (let z : _≡_ {A = ℕ} 0 1 = cc in omega arith)
@@ -15,16 +15,16 @@ never′ : {A : Type 0} → _≡_ {A = Bool} true false → A
 never′ e = absurd (let z : _≡_ {A = ℕ} 0 1 = cc in omega arith)
 
 -- a refusal leaves the old
-pub refused-left : {A : Type 0} (a : Answer) (new old : A) → isDone a ≡ false → old ≡ left a new old
-refused-left (Done n) new old e = never′ e
-refused-left (Refused r at) new old e = refl
+pub refused-outcome : {A : Type 0} (a : Answer) (new old : A) → isDone a ≡ false → old ≡ outcome a new old
+refused-outcome (Done n) new old e = never′ e
+refused-outcome (Refused r at) new old e = refl
 
 -- a success leaves the new
-pub done-left : {A : Type 0} (a : Answer) (new old : A) → isDone a ≡ true → new ≡ left a new old
-done-left (Done n) new old e = refl
-done-left (Refused r at) new old e = never e
+pub done-outcome : {A : Type 0} (a : Answer) (new old : A) → isDone a ≡ true → new ≡ outcome a new old
+done-outcome (Done n) new old e = refl
+done-outcome (Refused r at) new old e = never e
 
 -- a success passed the test, and is that of what comes next
-pub unless-done : (t : Bool) (r : Refusal) (at : ℕ) (next : Answer) → isDone (unless t (Refused r at) next) ≡ true → (t ≡ true) × (isDone next ≡ true)
-unless-done true r at next e = (refl, e)
-unless-done false r at next e = never e
+pub unless-done : (t : Bool) (r : Refusal) (next : Answer) → isDone (unless t r next) ≡ true → (t ≡ true) × (isDone next ≡ true)
+unless-done true r next e = (refl, e)
+unless-done false r next e = never e

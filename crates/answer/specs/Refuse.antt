@@ -2,17 +2,18 @@
 use mathlib.Core.Bool.{Bool, true, false}
 use Rattle.answer.specs.declared.Answer.{Answer}
 use Rattle.answer.specs.declared.Answer.the-variants.{Done, Refused}
+use Rattle.answer.specs.declared.Refusal.{Refusal}
 
--- a refusal unless the test holds, and else what comes next
-abbrev pub unless : {A : Type 0} → Bool → A → A → A
-unless true refusal next = next
-unless false refusal next = refusal
+-- a test that does not hold refuses, at offset 0; one that holds goes on
+abbrev pub unless : Bool → Refusal → Answer → Answer
+unless true r next = next
+unless false r next = Refused r 0
 
 abbrev pub isDone : Answer → Bool
 isDone (Done n) = true
 isDone (Refused r at) = false
 
 -- what an answer leaves: a success the new, a refusal the old
-abbrev pub left : {A : Type 0} → Answer → A → A → A
-left (Done n) new old = new
-left (Refused r at) new old = old
+abbrev pub outcome : {A : Type 0} → Answer → A → A → A
+outcome (Done n) new old = new
+outcome (Refused r at) new old = old

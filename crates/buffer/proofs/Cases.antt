@@ -10,10 +10,10 @@ use lib.ListN.{length, drop}
 use Rattle.answer.specs.declared.Answer.{Answer}
 use Rattle.answer.specs.declared.Answer.the-variants.{Done, Refused}
 use Rattle.answer.specs.declared.Refusal.the-variants.{Width, Operand, Output}
-use Rattle.answer.specs.Refuse.{unless, isDone, left}
-use Rattle.answer.proofs.Refuse.{refused-left, done-left, unless-done}
-use Rattle.quasigroup.specs.Tables.{Width as Tables}
-use Rattle.buffer.specs.Operation.{known, answerFor, onBytes, outputAfter}
+use Rattle.answer.specs.Refuse.{unless, isDone}
+use Rattle.answer.proofs.Refuse.{refused-outcome, done-outcome, unless-done}
+use Rattle.quasigroup.specs.Tables.{Width as Tables, known}
+use Rattle.buffer.specs.Operation.{answerFor, onBytes, outputAfter}
 
 true-T : (b : Bool) → b ≡ true → T b
 true-T true e = tt
@@ -54,9 +54,9 @@ module _ (w : ℕ) (x y out : List ℕ) where
 
   pub success : isDone (answerFor w x y out) ≡ true → Accepted
   success e =
-      let a = unless-done (known w) Width 0 _ e in
-      let b = unless-done (eqb (length x) w && eqb (length y) w) Operand 0 _ (a .1) in
-      let c = unless-done (leb w (length out)) Output 0 _ (b .1) in
+      let a = unless-done (known w) Width _ e in
+      let b = unless-done (eqb (length x) w && eqb (length y) w) Operand _ (a .1) in
+      let c = unless-done (leb w (length out)) Output _ (b .1) in
       let d = and-both (eqb (length x) w) (eqb (length y) w) (b .0) in
       record {
         other = λ n. eqb→eq w 64 (true-T _ (or-either (eqb w 32) (eqb w 64) (a .0) (ne-eqb w 32 n)));
@@ -69,7 +69,7 @@ module _ (w : ℕ) (x y out : List ℕ) where
 
   module _ (op : Tables → List ℕ → List ℕ → List ℕ) (r : Answer) (e : r ≡ answerFor w x y out) where
     pub left-alone : isDone r ≡ false → (r ≡ answerFor w x y out) × (out ≡ outputAfter op w x y out)
-    left-alone n = (e, rw e at (refused-left r (onBytes op w x y ++ drop w out) out n))
+    left-alone n = (e, rw e at (refused-outcome r (onBytes op w x y ++ drop w out) out n))
 
     pub written : isDone r ≡ true → (last : List ℕ) → last ≡ onBytes op w x y ++ drop w out → (r ≡ answerFor w x y out) × (last ≡ outputAfter op w x y out)
-    written n last f = (e, f ∙ rw e at (done-left r (onBytes op w x y ++ drop w out) out n))
+    written n last f = (e, f ∙ rw e at (done-outcome r (onBytes op w x y ++ drop w out) out n))

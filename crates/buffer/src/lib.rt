@@ -6,9 +6,10 @@ ghost use Prim.Native.Nat.{_≤_};
 ghost use lib.Dec.{eqb};
 ghost use lib.ListN.{length, drop};
 ghost use Rattle.answer.specs.Refuse.{isDone};
+ghost use Rattle.quasigroup.specs.Tables.{known};
 ghost use Rattle.quasigroup.specs.Product.{product};
 ghost use Rattle.quasigroup.specs.Division.{leftDivision, rightDivision};
-ghost use Rattle.buffer.specs.Operation.{known, answerFor, onBytes, outputAfter};
+ghost use Rattle.buffer.specs.Operation.{answerFor, onBytes, outputAfter};
 use answer::Answer;
 use answer::Refusal;
 

@@ -1,5 +1,5 @@
 -- Document 01, "The product", and 001, Tables 2.1 to 2.3: which words enter each sum, and what differs from width to width.
-use mathlib.Core.Bool.{Bool, true, false}
+use mathlib.Core.Bool.{Bool, true, false, _||_}
 use mathlib.Core.List.{List, [], _∷_}
 use Prim.Native.Nat.{ℕ}
 use lib.Dec.{eqb}
@@ -77,3 +77,7 @@ choose false a b = b
 -- the width of 64 or else of 32 bits, by its number
 abbrev pub widthOf : ℕ → Width
 widthOf w = choose (eqb w 64) wide narrow
+
+-- the widths that there are
+abbrev pub known : ℕ → Bool
+known w = eqb w 32 || eqb w 64
