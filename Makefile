@@ -17,7 +17,7 @@ test:
 	bash .ci/run
 
 bench: all
-	tests/run_c A bench
+	tests/run_c A B bench
 
 clean:
 	rm -rf target

@@ -25,6 +25,7 @@ static const struct {
     void (*run)(void);
 } stages[] = {
     {'A', bench_product},
+    {'B', bench_digest},
 };
 
 static double run_once(const struct work *work)

@@ -19,5 +19,6 @@ void bench_measure(struct work *works, size_t count);
 
 /* One call for each stage; each prints its own table. */
 void bench_product(void);
+void bench_digest(void);
 
 #endif

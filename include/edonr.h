@@ -98,6 +98,26 @@ uint64_t edonr_left_division(uint32_t width, const uint8_t *a, size_t a_len,
 uint64_t edonr_right_division(uint32_t width, const uint8_t *b, size_t b_len,
                               const uint8_t *a, size_t a_len, uint8_t *out, size_t out_len);
 
+/* ============================ B. Digest ============================ */
+
+#define EDONR_REFUSED_SIZE 1    /* the digest size is none of 224, 256, 384 and 512 */
+#define EDONR_REFUSED_MESSAGE 3 /* the message is over 2^61 - 1 bytes */
+
+/*
+ * The EDON-R digest of a message of whole bytes, in one call.
+ *
+ * Reads    message, message_len bytes; none is fine. size is the digest's length n in
+ *          bits: 224 and 256 work at width 32, 384 and 512 at width 64.
+ * Writes   on success the first n/8 bytes of out: the digest. Bytes behind them stay.
+ * Returns  n/8, that is 28, 32, 48 or 64.
+ * Refuses  in this order:
+ *          1 EDONR_REFUSED_SIZE     size is none of 224, 256, 384 and 512;
+ *          3 EDONR_REFUSED_MESSAGE  message_len is over 2^61 - 1;
+ *          4 EDONR_REFUSED_OUTPUT   out_len is under n/8.
+ */
+uint64_t edonr_digest(uint32_t size, const uint8_t *message, size_t message_len,
+                      uint8_t *out, size_t out_len);
+
 #ifdef __cplusplus
 }
 #endif

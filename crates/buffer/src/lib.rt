@@ -52,20 +52,18 @@ fn product32(x: &[u8], y: &[u8], out: &mut [u8])
     requires { ⌜ 32 ≤ length (now x) ⌝ ∗ ⌜ 32 ≤ length (now y) ⌝ ∗ ⌜ 32 ≤ length (now out) ⌝ }
     ensures { λ _. ⌜ now (out .exit) ≡ onBytes product 32 (now (x .entry)) (now (y .entry)) ++ drop 32 (now (out .entry)) ⌝ }
 {
-    memory::store_vector32(
-        out,
-        vector::product32(memory::load_vector32(x), memory::load_vector32(y)),
-    );
+    let left = vector::left_half32(memory::load_vector32(x));
+    let right = vector::right_half32(memory::load_vector32(y));
+    memory::store_vector32(out, vector::joined32(left, right));
 }
 
 fn product64(x: &[u8], y: &[u8], out: &mut [u8])
     requires { ⌜ 64 ≤ length (now x) ⌝ ∗ ⌜ 64 ≤ length (now y) ⌝ ∗ ⌜ 64 ≤ length (now out) ⌝ }
     ensures { λ _. ⌜ now (out .exit) ≡ onBytes product 64 (now (x .entry)) (now (y .entry)) ++ drop 64 (now (out .entry)) ⌝ }
 {
-    memory::store_vector64(
-        out,
-        vector::product64(memory::load_vector64(x), memory::load_vector64(y)),
-    );
+    let left = vector::left_half64(memory::load_vector64(x));
+    let right = vector::right_half64(memory::load_vector64(y));
+    memory::store_vector64(out, vector::joined64(left, right));
 }
 
 // X*Y, into the first `width` bytes of `out`.

@@ -4,6 +4,7 @@ ghost use Rattle.answer.specs.Number.{numberOf};
 ghost use Rattle.quasigroup.specs.Product.{product};
 ghost use Rattle.quasigroup.specs.Division.{leftDivision, rightDivision};
 ghost use Rattle.buffer.specs.Operation.{answerFor, outputAfter};
+ghost use Rattle.digest.specs.OneCall.{oneCallAnswer, oneCallOut};
 
 // X*Y, into the first `width` bytes of `out`.
 #[no_mangle]
@@ -30,4 +31,13 @@ pub extern "C" fn edonr_right_division(width: u32, b: &[u8], a: &[u8], out: &mut
     ensures { λ _. ⌜ now (out .exit) ≡ outputAfter rightDivision width (now (b .entry)) (now (a .entry)) (now (out .entry)) ⌝ }
 {
     answer::number(buffer::right_division(width, b, a, out))
+}
+
+// The digest of `message` of `size` bits, into the first `size` / 8 bytes of `out`.
+#[no_mangle]
+pub extern "C" fn edonr_digest(size: u32, message: &[u8], out: &mut [u8]) -> u64
+    ensures { λ r. ⌜ r ≡ numberOf (oneCallAnswer size (now (message .entry)) (now (out .entry))) ⌝ }
+    ensures { λ _. ⌜ now (out .exit) ≡ oneCallOut size (now (message .entry)) (now (out .entry)) ⌝ }
+{
+    answer::number(one_call::digest(size, message, out))
 }

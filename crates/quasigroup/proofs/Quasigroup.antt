@@ -1,11 +1,11 @@
 -- The quasigroup theorem, for every width: there is one solution, and the divisions return it.
-use mathlib.Core.Path.{_≡_, refl, sym, ap, _∙_}
+use mathlib.Core.Path.{_≡_, refl, sym, ap, ap₂, _∙_}
 use Prim.Native.Nat.{ℕ, suc, _<_}
 use native.Mathlib.Omega.{arith}
 use mathlib.Core.List.{List}
 use lib.ListN.{length}
 use Rattle.quasigroup.specs.Tables.{Width, leftSums, rightSums, narrow, wide}
-use Rattle.quasigroup.specs.Product.{leftHalf, rightHalf, product}
+use Rattle.quasigroup.specs.Product.{leftHalf, rightHalf, joined, product}
 use Rattle.quasigroup.specs.Division.{leftUnxors, rightUnxors, leftInverse, rightInverse, unleft, unright, leftDivision, rightDivision}
 use Rattle.quasigroup.specs.Vector.{Below, Vector}
 use Rattle.quasigroup.specs.Theorem.{OnlySolution, Quasigroup}
@@ -41,6 +41,11 @@ pub record Fits (s : Width) : Type 0 where
   pub right-eight : length (s .rightAmounts) ≡ 8
   pub left-within : Below (suc (s .bits)) (s .leftAmounts)
   pub right-within : Below (suc (s .bits)) (s .rightAmounts)
+
+-- a product from its halves
+pub from-halves : (s : Width) (x y : List ℕ) {l r z : List ℕ} → l ≡ leftHalf s x → r ≡ rightHalf s y → z ≡ joined (s .bits) l r → z ≡ product s x y
+unfolding product
+from-halves s x y a b c = c ∙ ap₂ (joined (s .bits)) a b
 
 module _ (s : Width) (h : Fits s) where
   left-undo : Undo (s .bits) (leftHalf s) (unleft s)

@@ -37,6 +37,13 @@ fn combination32(t: [u32; 8], p: [usize; 3]) -> u32
     t[a] ^ (t[b] ^ t[c])
 }
 
+// The vector as it is, read word by word: a copy of the array would join two words into one load, which waits for the stores before it.
+fn words32(v: [u32; 8]) -> [u32; 8]
+    ensures { λ z. ⌜ z ≡ v ⌝ }
+{
+    [v[0], v[1], v[2], v[3], v[4], v[5], v[6], v[7]]
+}
+
 fn left_sums32(v: [u32; 8]) -> [u32; 8]
     ensures { λ z. ⌜ z ≡ rotations 32 (narrow .leftAmounts) (sums 32 0xaaaa_aaaa leftSums v) ⌝ }
 {
@@ -74,7 +81,7 @@ fn left_combinations32(t: [u32; 8]) -> [u32; 8]
 pub fn left_half32(x: [u32; 8]) -> [u32; 8]
     ensures { λ z. ⌜ z ≡ leftHalf narrow x ⌝ }
 {
-    left_combinations32(left_sums32(x))
+    left_combinations32(left_sums32(words32(x)))
 }
 
 fn right_sums32(v: [u32; 8]) -> [u32; 8]
@@ -114,11 +121,12 @@ fn right_combinations32(t: [u32; 8]) -> [u32; 8]
 pub fn right_half32(y: [u32; 8]) -> [u32; 8]
     ensures { λ z. ⌜ z ≡ rightHalf narrow y ⌝ }
 {
-    right_combinations32(right_sums32(y))
+    right_combinations32(right_sums32(words32(y)))
 }
 
-// The halves added, in the order of the result.
-fn joined32(a: [u32; 8], b: [u32; 8]) -> [u32; 8]
+// The halves added, in the order of the result. A caller that multiplies where it counts joins the halves itself: they are put in line
+// there, and a half that two products share is made once.
+pub fn joined32(a: [u32; 8], b: [u32; 8]) -> [u32; 8]
     ensures { λ z. ⌜ z ≡ joined 32 a b ⌝ }
 {
     [
@@ -169,6 +177,13 @@ fn combination64(t: [u64; 8], p: [usize; 3]) -> u64
     t[a] ^ (t[b] ^ t[c])
 }
 
+// The vector as it is, read word by word: a copy of the array would join two words into one load, which waits for the stores before it.
+fn words64(v: [u64; 8]) -> [u64; 8]
+    ensures { λ z. ⌜ z ≡ v ⌝ }
+{
+    [v[0], v[1], v[2], v[3], v[4], v[5], v[6], v[7]]
+}
+
 fn left_sums64(v: [u64; 8]) -> [u64; 8]
     ensures { λ z. ⌜ z ≡ rotations 64 (wide .leftAmounts) (sums 64 0xaaaa_aaaa_aaaa_aaaa leftSums v) ⌝ }
 {
@@ -206,7 +221,7 @@ fn left_combinations64(t: [u64; 8]) -> [u64; 8]
 pub fn left_half64(x: [u64; 8]) -> [u64; 8]
     ensures { λ z. ⌜ z ≡ leftHalf wide x ⌝ }
 {
-    left_combinations64(left_sums64(x))
+    left_combinations64(left_sums64(words64(x)))
 }
 
 fn right_sums64(v: [u64; 8]) -> [u64; 8]
@@ -246,11 +261,12 @@ fn right_combinations64(t: [u64; 8]) -> [u64; 8]
 pub fn right_half64(y: [u64; 8]) -> [u64; 8]
     ensures { λ z. ⌜ z ≡ rightHalf wide y ⌝ }
 {
-    right_combinations64(right_sums64(y))
+    right_combinations64(right_sums64(words64(y)))
 }
 
-// The halves added, in the order of the result.
-fn joined64(a: [u64; 8], b: [u64; 8]) -> [u64; 8]
+// The halves added, in the order of the result. A caller that multiplies where it counts joins the halves itself: they are put in line
+// there, and a half that two products share is made once.
+pub fn joined64(a: [u64; 8], b: [u64; 8]) -> [u64; 8]
     ensures { λ z. ⌜ z ≡ joined 64 a b ⌝ }
 {
     [

@@ -8,5 +8,4 @@ unfolding leftHalf
 returns c = cc
 
 pub left-half64-spec : {M : Type 1} → statement M
-left-half64-spec = tie.close (tie.spec
-    (λ c κs. search needs) (λ c κs. search needs) returns)
+left-half64-spec = tie.close (tie.spec (λ c κs. search needs) (λ c κs. search needs) (λ c κs. search needs) returns)

@@ -9,5 +9,4 @@ returns c = cc
 
 pub right-half64-spec : {M : Type 1} → statement M
 right-half64-spec =
-    tie.close (tie.spec
-    (λ c κs. search needs) (λ c κs. search needs) returns)
+    tie.close (tie.spec (λ c κs. search needs) (λ c κs. search needs) (λ c κs. search needs) returns)

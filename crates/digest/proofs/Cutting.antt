@@ -1,0 +1,241 @@
+-- Every way of cutting a message: the theorem of specs/Cutting.antt, for every kind, and so for the narrow and the wide one and for the one call.
+use mathlib.Core.Path.{_≡_, refl, ap, sym, subst, _∙_}
+use mathlib.Core.Bool.{Bool, true, false}
+use mathlib.Core.List.{List, [], _∷_, _++_}
+use Prim.Native.Nat.{ℕ, _+_, _/_, _≤_, _<_}
+use native.Mathlib.Nat.{zero-add, zero-mod}
+use native.Mathlib.Decide.{decLe}
+use native.Mathlib.Omega.{arith}
+use borrow.Author.Tests.{le-leb, lt-leb}
+use lib.Dec.{lit≤}
+use lib.ListN.{length, drop, length-append}
+use Rattle.answer.specs.declared.Answer.{Answer}
+use Rattle.answer.specs.declared.Answer.the-variants.{Done, Refused}
+use Rattle.answer.specs.declared.Refusal.{Refusal}
+use Rattle.answer.specs.declared.Refusal.the-variants.{Size, State, Length}
+use Rattle.digest.specs.Padding.{padding}
+use Rattle.digest.specs.Blocks.{rest}
+use Rattle.answer.specs.Refuse.{unless, outcome}
+use Rattle.digest.specs.Refusals.{limit}
+use Rattle.digest.specs.Kind.{Kind, choose, known, narrowKind, wideKind}
+use Rattle.digest.specs.State.{Hash, formed, pending, opened, zeros, openAnswer, openState, advanced, feedAnswer, feedState, feedAll, closed, cut, finished, finishAnswer, finishOut}
+use Rattle.digest.specs.OneCall.{digestOf, digestAnswer, digestOut}
+use Rattle.digest.specs.Waiting.{Held, Clean}
+use Rattle.digest.specs.Cutting.{joined, Written, fedAndFinished, inPieces, accepted, Call, feed, finish, pieces, afterCalls, Cutting, CuttingOneCall}
+use Rattle.digest.proofs.Blocks.{compressed-twice}
+use Rattle.digest.proofs.Feeding.{decide, held, clean, held-opened, clean-opened, pending-advanced, advanced-size, advanced-total, advanced-twice, advanced-nothing, feed-done, feed-state, feed-length, left-done, formed-total, formed-advanced}
+
+module _ (k : Kind) (pos : 0 < k .block) where
+  -- ---- one piece
+
+  abbrev one : Hash → List ℕ → List ℕ → Written
+  one h s out = fedAndFinished k h (s ∷ []) out
+
+  abbrev ends : Hash → List ℕ → Written
+  ends h out = record { answer = finishAnswer k h out; out = finishOut k h out }
+
+  -- a feeding that is refused ends it, whatever would follow
+  stops : (h : Hash) (s : List ℕ) (ss : List (List ℕ)) (out : List ℕ) {r : Refusal} → feedAnswer k h s ≡ Refused r 0
+      → fedAndFinished k h (s ∷ ss) out ≡ record { answer = Refused r 0; out = out }
+  stops h s ss out e = ap (λ (b : Answer). outcome b (fedAndFinished k (feedState k h s) ss out) (record { answer = b; out = out })) e
+
+  goes : (h : Hash) (s : List ℕ) (ss : List (List ℕ)) (out : List ℕ) → formed k h ≡ true → h .total + length s ≤ limit
+      → fedAndFinished k h (s ∷ ss) out ≡ fedAndFinished k (advanced k h s) ss out
+  goes h s ss out f l =
+      let d = feed-done k pos h s f l in
+      ap (λ (b : Answer). outcome b (fedAndFinished k (feedState k h s) ss out) (record { answer = b; out = out })) d
+      ∙ ap (λ (x : Hash). fedAndFinished k x ss out) (left-done k pos h s d)
+
+  refused-state : (h : Hash) (s : List ℕ) (ss : List (List ℕ)) (out : List ℕ) → formed k h ≡ false → fedAndFinished k h (s ∷ ss) out ≡ record { answer = Refused State 0; out = out }
+  refused-state h s ss out f = stops h s ss out (feed-state k pos h s f)
+
+  refused-length : (h : Hash) (s : List ℕ) (ss : List (List ℕ)) (out : List ℕ) → formed k h ≡ true → limit < h .total + length s
+      → fedAndFinished k h (s ∷ ss) out ≡ record { answer = Refused Length 0; out = out }
+  refused-length h s ss out f l = stops h s ss out (feed-length k pos h s f l)
+
+  -- ---- any pieces are the joined piece
+
+  joined-twice : (h : Hash) (s t out : List ℕ) → Held k h → formed k h ≡ true → h .total + length s ≤ limit
+      → one (advanced k h s) t out ≡ one h (s ++ t) out
+  joined-twice h s t out e f l = decided (decLe (h .total + length (s ++ t)) limit)
+    where
+      f′ : formed k (advanced k h s) ≡ true
+      f′ = formed-advanced k pos h s f l
+
+      decided : Dec (h .total + length (s ++ t) ≤ limit) → one (advanced k h s) t out ≡ one h (s ++ t) out
+      decided (yes y) =
+          let m : advanced k h s .total + length t ≤ limit = omega (arith, length-append s t, advanced-total k pos h s) in
+          goes (advanced k h s) t [] out f′ m ∙ ap (λ (x : Hash). ends x out) (advanced-twice k pos h s t e) ∙ sym (goes h (s ++ t) [] out f y)
+      decided (no y) =
+          let m : limit < advanced k h s .total + length t = omega (arith, length-append s t, advanced-total k pos h s) in
+          refused-length (advanced k h s) t [] out f′ m ∙ sym (refused-length h (s ++ t) [] out f (omega arith))
+
+  pub all-joined : (ss : List (List ℕ)) (h : Hash) (out : List ℕ) → Held k h → Clean k h → fedAndFinished k h ss out ≡ one h (joined ss) out
+  all-joined [] h out e c = decide (formed k h) formed-yes formed-no
+    where
+      formed-yes : formed k h ≡ true → ends h out ≡ one h [] out
+      formed-yes f =
+          let t = formed-total k pos h f in
+          ap (λ (x : Hash). ends x out) (sym (advanced-nothing k pos h e c)) ∙ sym (goes h [] [] out f (omega arith))
+
+      formed-no : formed k h ≡ false → ends h out ≡ one h [] out
+      formed-no f =
+          let a : finishAnswer k h out ≡ Refused State 0 = rw f in
+          ap (λ (b : Answer). record { answer = b; out = outcome b (finished k h ++ drop (h .size / 8) out) out }) a ∙ sym (refused-state h [] [] out f)
+  all-joined (s ∷ ss) h out e c =
+      decide (formed k h) (λ f. decided f (all-joined ss (advanced k h s) out (held k pos h s e) (clean k pos h s e)) (decLe (h .total + length s) limit)) formed-no
+    where
+      formed-no : formed k h ≡ false → fedAndFinished k h (s ∷ ss) out ≡ one h (s ++ joined ss) out
+      formed-no f = refused-state h s ss out f ∙ sym (refused-state h (s ++ joined ss) [] out f)
+
+      decided : formed k h ≡ true → fedAndFinished k (advanced k h s) ss out ≡ one (advanced k h s) (joined ss) out → Dec (h .total + length s ≤ limit)
+          → fedAndFinished k h (s ∷ ss) out ≡ one h (s ++ joined ss) out
+      decided f i (yes l) = goes h s ss out f l ∙ i ∙ joined-twice h s (joined ss) out e f l
+      decided f i (no l) =
+          let m : limit < h .total + length (s ++ joined ss) = omega (arith, length-append s (joined ss)) in
+          refused-length h s ss out f (omega arith) ∙ sym (refused-length h (s ++ joined ss) [] out f m)
+
+  -- ---- the digest in one call
+
+  abbrev called : ℕ → List ℕ → List ℕ → Written
+  called n m out = record { answer = digestAnswer k n m out; out = digestOut k n m out }
+
+  refused-call : (n : ℕ) (m out : List ℕ) {r : Refusal} → digestAnswer k n m out ≡ Refused r 0 → record { answer = Refused r 0; out = out } ≡ called n m out
+  refused-call n m out e = ap (λ (b : Answer). record { answer = b; out = outcome b (digestOf k n m ++ drop (n / 8) out) out }) (sym e)
+
+  module _ (n : ℕ) (kn : known k n ≡ true) where
+    open-done : openState k n ≡ opened k n
+    open-done = ap (λ (b : Bool). outcome (unless b Size (Done 0)) (opened k n) (zeros k)) kn
+
+    formed-opened : formed k (opened k n) ≡ true
+    formed-opened = rw kn
+
+    module _ (m : List ℕ) (l : length m ≤ limit) where
+      finished-is : finished k (advanced k (opened k n) m) ≡ digestOf k n m
+      unfolding advanced closed digestOf
+      finished-is =
+          let z : pending k (opened k n) ++ m ≡ m = rw zero-mod in
+          let w : pending k (advanced k (opened k n) m) ≡ rest (k .block) m = pending-advanced k pos (opened k n) m (held-opened k pos n) ∙ ap (rest (k .block)) z in
+          ap (cut k n)
+          (rw (w, zero-add (length m), z) (compressed-twice (k .block) pos (k .step) (k .start n) m (padding (k .block) (length m))))
+
+      pub one-call : (out : List ℕ) → ends (advanced k (opened k n) m) out ≡ called n m out
+      one-call out =
+          let h = advanced k (opened k n) m in
+          let f : formed k h ≡ true = formed-advanced k pos (opened k n) m formed-opened (omega arith) in
+          let z : h .size ≡ n = advanced-size k pos (opened k n) m in
+          let a : finishAnswer k h out ≡ digestAnswer k n m out = rw (kn, le-leb _ _ l, f, z) in
+          λ i. record { answer = a i; out = outcome (a i) (finished-is i ++ drop (z i / 8) out) out }
+
+  whole : (n : ℕ) (ss : List (List ℕ)) (out : List ℕ) → inPieces k n ss out ≡ called n (joined ss) out
+  whole n ss out = decide (known k n) (λ kn. opened-yes kn (decLe (length (joined ss)) limit)) opened-no
+    where
+      opened-no : known k n ≡ false → inPieces k n ss out ≡ called n (joined ss) out
+      opened-no e =
+          let a : openAnswer k n ≡ Refused Size 0 = rw e in
+          ap (λ (b : Answer). outcome b (fedAndFinished k (openState k n) ss out) (record { answer = b; out = out })) a ∙ refused-call n (joined ss) out (rw e)
+
+      opened-is : known k n ≡ true → inPieces k n ss out ≡ one (opened k n) (joined ss) out
+      opened-is kn =
+          let a : openAnswer k n ≡ Done 0 = rw kn in
+          ap (λ (b : Answer). outcome b (fedAndFinished k (openState k n) ss out) (record { answer = b; out = out })) a
+          ∙ ap (λ (x : Hash). fedAndFinished k x ss out) (open-done n kn) ∙ all-joined ss (opened k n) out (held-opened k pos n) (clean-opened k pos n)
+
+      opened-yes : known k n ≡ true → Dec (length (joined ss) ≤ limit) → inPieces k n ss out ≡ called n (joined ss) out
+      opened-yes kn (yes l) =
+          opened-is kn ∙ goes (opened k n) (joined ss) [] out (formed-opened n kn) (omega arith) ∙ one-call n kn (joined ss) l out
+      opened-yes kn (no l) =
+          let g : limit < length (joined ss) = omega arith in
+          opened-is kn ∙ refused-length (opened k n) (joined ss) [] out (formed-opened n kn) (omega arith)
+          ∙ refused-call n (joined ss) out (rw (kn, lt-leb _ _ g))
+
+  -- ---- a caller who goes on behind a refusal
+
+  taken : (h : Hash) (s : List ℕ) (ss : List (List ℕ)) → formed k h ≡ true → h .total + length s ≤ limit
+      → (accepted k h (s ∷ ss) ≡ s ++ accepted k (advanced k h s) ss) × (feedAll k h (s ∷ ss) ≡ feedAll k (advanced k h s) ss)
+  taken h s ss f l =
+      let d = feed-done k pos h s f l in
+      let e = left-done k pos h s d in (
+        ap (λ (b : Answer). outcome b (s ++ accepted k (feedState k h s) ss) (accepted k h ss)) d ∙ ap (λ (x : Hash). s ++ accepted k x ss) e,
+        ap (λ (x : Hash). feedAll k x ss) e,
+      )
+
+  passed : (h : Hash) (s : List ℕ) (ss : List (List ℕ)) {r : Refusal} → feedAnswer k h s ≡ Refused r 0
+      → (accepted k h (s ∷ ss) ≡ accepted k h ss) × (feedAll k h (s ∷ ss) ≡ feedAll k h ss)
+  passed h s ss e = (
+    ap (λ (b : Answer). outcome b (s ++ accepted k (feedState k h s) ss) (accepted k h ss)) e,
+    ap (λ (b : Answer). feedAll k (outcome b (advanced k h s) h) ss) e,
+  )
+
+  accepted-fits : (ss : List (List ℕ)) (h : Hash) → h .total ≤ limit → h .total + length (accepted k h ss) ≤ limit
+  accepted-fits [] h l = omega arith
+  accepted-fits (s ∷ ss) h l =
+      decide (formed k h) (λ f. decided f (accepted-fits ss h l) (accepted-fits ss (advanced k h s)) (decLe (h .total + length s) limit)) (formed-no (accepted-fits ss h l))
+    where
+      formed-no : h .total + length (accepted k h ss) ≤ limit → formed k h ≡ false → h .total + length (accepted k h (s ∷ ss)) ≤ limit
+      formed-no i f = rw (passed h s ss (feed-state k pos h s f) .0) i
+
+      decided : formed k h ≡ true → h .total + length (accepted k h ss) ≤ limit
+          → (advanced k h s .total ≤ limit → advanced k h s .total + length (accepted k (advanced k h s) ss) ≤ limit)
+          → Dec (h .total + length s ≤ limit) → h .total + length (accepted k h (s ∷ ss)) ≤ limit
+      decided f i j (yes y) =
+          let t = advanced-total k pos h s in
+          let l′ = j (rw t y) in
+          rw (taken h s ss f y .0, length-append s (accepted k (advanced k h s) ss)) (omega arith)
+      decided f i j (no y) = rw (passed h s ss (feed-length k pos h s f (omega arith)) .0) i
+
+  all-accepted : (ss : List (List ℕ)) (h : Hash) → Held k h → Clean k h → formed k h ≡ true → feedAll k h ss ≡ advanced k h (accepted k h ss)
+  all-accepted [] h e c f = sym (advanced-nothing k pos h e c)
+  all-accepted (s ∷ ss) h e c f =
+      decided (all-accepted ss h e c f) (all-accepted ss (advanced k h s) (held k pos h s e) (clean k pos h s e)) (decLe (h .total + length s) limit)
+    where
+      decided : feedAll k h ss ≡ advanced k h (accepted k h ss)
+          → (formed k (advanced k h s) ≡ true → feedAll k (advanced k h s) ss ≡ advanced k (advanced k h s) (accepted k (advanced k h s) ss))
+          → Dec (h .total + length s ≤ limit) → feedAll k h (s ∷ ss) ≡ advanced k h (accepted k h (s ∷ ss))
+      decided i j (yes y) =
+          let t = taken h s ss f y in
+          t .1 ∙ j (formed-advanced k pos h s f y) ∙ advanced-twice k pos h s (accepted k (advanced k h s) ss) e ∙ ap (advanced k h) (sym (t .0))
+      decided i j (no y) =
+          let p = passed h s ss (feed-length k pos h s f (omega arith)) in
+          p .1 ∙ i ∙ ap (advanced k h) (sym (p .0))
+
+  fits : (n : ℕ) (ss : List (List ℕ)) → length (accepted k (openState k n) ss) ≤ limit
+  fits n ss =
+      let z : openState k n .total ≡ 0 = decide (known k n) (λ e. ap (λ (h : Hash). h .total) (open-done n e)) (λ e. ap (λ (b : Bool). outcome (unless b Size (Done 0)) (opened k n) (zeros k) .total) e) in
+      let i = accepted-fits ss (openState k n) (rw z (lit≤ tt)) in
+      omega arith
+
+  goes-on : (n : ℕ) (ss : List (List ℕ)) (out : List ℕ) → known k n ≡ true
+      → (finishAnswer k (feedAll k (openState k n) ss) out ≡ digestAnswer k n (accepted k (openState k n) ss) out)
+      × (finishOut k (feedAll k (openState k n) ss) out ≡ digestOut k n (accepted k (openState k n) ss) out)
+  goes-on n ss out kn =
+      let o = open-done n kn in
+      let m = accepted k (opened k n) ss in
+      let l : length m ≤ limit = subst (λ (h : Hash). length (accepted k h ss) ≤ limit) o (fits n ss) in
+      let e : ends (feedAll k (openState k n) ss) out ≡ called n (accepted k (openState k n) ss) out =
+      ap (λ (h : Hash). ends (feedAll k h ss) out) o
+      ∙ ap (λ (h : Hash). ends h out) (all-accepted ss (opened k n) (held-opened k pos n) (clean-opened k pos n) (formed-opened n kn))
+      ∙ one-call n kn m l out ∙ ap (λ (h : Hash). called n (accepted k h ss) out) (sym o) in
+      (ap (λ (w : Written). w .answer) e, ap (λ (w : Written). w .out) e)
+
+  finish-leaves : (cs : List Call) (h : Hash) → afterCalls k h cs ≡ feedAll k h (pieces cs)
+  finish-leaves [] h = refl
+  finish-leaves (feed s ∷ cs) h = finish-leaves cs (feedState k h s)
+  finish-leaves (finish out ∷ cs) h = finish-leaves cs h
+
+  pub cutting : Cutting k
+  cutting = record { whole = whole; fits = fits; goesOn = goes-on; finishLeaves = λ h cs. finish-leaves cs h }
+
+pub narrow-cutting : Cutting narrowKind
+narrow-cutting = cutting narrowKind (lit≤ tt)
+
+pub wide-cutting : Cutting wideKind
+wide-cutting = cutting wideKind (lit≤ tt)
+
+pub one-call-cutting : CuttingOneCall
+one-call-cutting n = by-kind (known wideKind n)
+  where
+    by-kind : (b : Bool) (ss : List (List ℕ)) (out : List ℕ) → inPieces (choose b wideKind narrowKind) n ss out
+        ≡ record { answer = digestAnswer (choose b wideKind narrowKind) n (joined ss) out; out = digestOut (choose b wideKind narrowKind) n (joined ss) out }
+    by-kind true = wide-cutting .whole n
+    by-kind false = narrow-cutting .whole n

@@ -1,0 +1,14 @@
+pub mod Blocks
+pub mod Padding
+pub mod Feeding
+pub mod Cutting
+pub mod Waiting
+pub mod Form
+pub mod Buffer
+pub mod Tail
+pub mod Written
+pub mod Answers
+pub mod Absorb
+pub mod Cases
+pub mod Step
+pub mod OneCall

@@ -1,0 +1,12 @@
+pub mod Padding
+pub mod Blocks
+pub mod Pipe
+pub mod Start
+pub mod Step
+pub mod Refusals
+pub mod Kind
+pub mod State
+pub mod OneCall
+pub mod Cutting
+pub mod Waiting
+pub mod Form

@@ -1,0 +1,41 @@
+-- One block: 001, Definition 8, and document 01, "The digest", at any width.
+use mathlib.Core.List.{List, [], _∷_}
+use Prim.Native.Nat.{ℕ, _*_, _/_}
+use Rattle.memory.specs.Bytes.{wordsAt}
+use Rattle.quasigroup.specs.Tables.{Width}
+use Rattle.quasigroup.specs.Product.{pick, product}
+use Rattle.digest.specs.Pipe.{Pipe}
+
+-- the words in reverse order; the bar is 001's and document 01's sign for it
+abbrev pub bar : List ℕ → List ℕ
+bar v = pick (7 ∷ 6 ∷ 5 ∷ 4 ∷ 3 ∷ 2 ∷ 1 ∷ 0 ∷ []) v
+
+-- how many bytes a word has
+abbrev pub wordBytes : Width → ℕ
+wordBytes s = s .bits / 8
+
+module _ (s : Width) where
+  -- the function R of C0, C1, X, Y, row by row
+  unfoldable pub R : List ℕ → List ℕ → List ℕ → List ℕ → Pipe
+  R C0 C1 X Y =
+      let D1 = product s (bar Y) X in
+      let D2 = product s D1 Y in
+      let D3 = product s C0 D1 in
+      let D4 = product s D3 D2 in
+      let D5 = product s D3 C1 in
+      let D6 = product s D4 D5 in
+      let D7 = product s (bar X) D5 in
+      let D8 = product s D7 D6 in
+      record { first = D7; second = D8 }
+
+  -- words 0 to 7 of a block, and words 8 to 15
+  abbrev pub blockX : List ℕ → List ℕ
+  blockX m = wordsAt (wordBytes s) 8 m 0
+
+  abbrev pub blockY : List ℕ → List ℕ
+  blockY m = wordsAt (wordBytes s) 8 m (8 * wordBytes s)
+
+  -- The pipe after a block m. This line decides the order of the pipe's halves: C0 is its second vector and C1 its first. Document 01's prose
+  -- has them the other way round, which gives none of the sixteen values printed in 001, section 3.16; this order gives them, and 001 decides.
+  unfoldable pub step : Pipe → List ℕ → Pipe
+  step p m = R (p .second) (p .first) (blockX m) (blockY m)

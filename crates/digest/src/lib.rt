@@ -1,0 +1,1 @@
+// EDON-R's digests: definitions in specs/, laws in proofs/. There is no code here.

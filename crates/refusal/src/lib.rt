@@ -1,0 +1,78 @@
+// What the operations of a hash answer: every refusal of both kinds, by numbers alone. `small` and `large` are a kind's two sizes.
+ghost use mathlib.Core.Path.{_≡_};
+ghost use Rattle.digest.specs.Refusals.{isSize, inForm, opening, feeding, delivering, finishing, digesting};
+use answer::Answer;
+use answer::Refusal;
+
+// The largest total of bytes.
+const LIMIT: u64 = 2305843009213693951;
+
+pub fn is_size(small: u32, large: u32, size: u32) -> bool
+    ensures { λ r. ⌜ r ≡ isSize small large size ⌝ }
+{
+    if size == small {
+        return true;
+    }
+    size == large
+}
+
+fn in_form(small: u32, large: u32, size: u32, total: u64) -> bool
+    ensures { λ r. ⌜ r ≡ inForm small large size total ⌝ }
+{
+    if is_size(small, large, size) {
+        return total <= LIMIT;
+    }
+    false
+}
+
+pub fn opening(small: u32, large: u32, size: u32) -> Answer
+    ensures { λ r. ⌜ r ≡ opening small large size ⌝ }
+{
+    if !is_size(small, large, size) {
+        return Answer::Refused(Refusal::Size, 0);
+    }
+    Answer::Done(0)
+}
+
+pub fn feeding(small: u32, large: u32, size: u32, total: u64, len: usize) -> Answer
+    ensures { λ r. ⌜ r ≡ feeding small large size total len ⌝ }
+{
+    if !in_form(small, large, size, total) {
+        return Answer::Refused(Refusal::State, 0);
+    }
+    let more = len as u64;
+    if LIMIT - total < more {
+        return Answer::Refused(Refusal::Length, 0);
+    }
+    Answer::Done(total + more)
+}
+
+fn delivering(size: u32, room: usize) -> Answer
+    ensures { λ r. ⌜ r ≡ delivering size room ⌝ }
+{
+    if room < (size / 8) as usize {
+        return Answer::Refused(Refusal::Output, 0);
+    }
+    Answer::Done((size / 8) as u64)
+}
+
+pub fn finishing(small: u32, large: u32, size: u32, total: u64, room: usize) -> Answer
+    ensures { λ r. ⌜ r ≡ finishing small large size total room ⌝ }
+{
+    if !in_form(small, large, size, total) {
+        return Answer::Refused(Refusal::State, 0);
+    }
+    delivering(size, room)
+}
+
+pub fn digesting(small: u32, large: u32, size: u32, len: usize, room: usize) -> Answer
+    ensures { λ r. ⌜ r ≡ digesting small large size len room ⌝ }
+{
+    if !is_size(small, large, size) {
+        return Answer::Refused(Refusal::Size, 0);
+    }
+    if LIMIT < len as u64 {
+        return Answer::Refused(Refusal::Length, 0);
+    }
+    delivering(size, room)
+}

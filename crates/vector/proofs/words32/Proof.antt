@@ -1,0 +1,14 @@
+use Rattle.memory.proofs.Lists.{spread}
+use borrow.Author.Needs.{needs}
+use Rattle.vector.proofs.words32.Statement.{statement}
+use Rattle.vector.proofs.words32.Tie as tie
+
+returns : tie.Need-returns
+returns c = spread 8 (c .args .t1) (search needs)
+
+pub words32-spec : {M : Type 1} → statement M
+words32-spec =
+    tie.close
+    (tie.spec
+    (λ c. search needs) (λ c. search needs) (λ c. search needs) (λ c. search needs) (λ c. search needs) (λ c. search needs)
+    (λ c. search needs) (λ c. search needs) returns)

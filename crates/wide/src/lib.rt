@@ -1,0 +1,186 @@
+// The wide kind of hash, of 384 and 512 bits: a hash in progress, and the digest of a whole message.
+ghost use mathlib.Core.Path.{_≡_};
+ghost use mathlib.Core.List.{_++_};
+ghost use Prim.Native.Nat.{_+_, _<_, _≤_};
+ghost use lib.ListN.{length};
+ghost use Rattle.quasigroup.specs.Tables.{wide};
+ghost use Rattle.digest.specs.Blocks.{compressed, rest, filled};
+ghost use Rattle.digest.specs.Step.{step};
+ghost use Rattle.digest.specs.Kind.{wideKind};
+ghost use Rattle.digest.specs.State.{closed, finishAnswer, finishOut};
+ghost use Rattle.digest.specs.OneCall.{digestAnswer, digestOut};
+ghost use Rattle.block.specs.Pipes.{pipe64};
+ghost use Rattle.wide.specs.Outcomes.{hashOf, opened, fed};
+use answer::Answer;
+use block::Pipe64;
+
+// A hash in progress. Of `waiting` the first `total` modulo 128 bytes are waiting, which is document 01's word: fed, and not yet part of a block.
+pub struct Wide {
+    pub size: u32,
+    pub pipe: Pipe64,
+    pub waiting: [u8; 128],
+    pub total: u64,
+}
+
+pub struct Outcome {
+    pub answer: Answer,
+    pub state: Wide,
+}
+
+struct Absorbed {
+    pipe: Pipe64,
+    waiting: [u8; 128],
+}
+
+// `a` and then `b`, with zeros behind them.
+fn hold(a: &[u8], b: &[u8]) -> [u8; 128]
+    requires { ⌜ length (now a) + length (now b) ≤ 128 ⌝ }
+    ensures { λ r. ⌜ r ≡ filled 128 (now (a .entry) ++ now (b .entry)) ⌝ }
+{
+    let mut w = [0u8; 128];
+    memory::copy_at(&mut w, 0, a);
+    memory::copy_at(&mut w, a.len(), b);
+    w
+}
+
+// Whole blocks of `s`, and the rest held.
+fn straight(p: Pipe64, s: &[u8]) -> Absorbed
+    ensures { λ r. ⌜ (pipe64 (r .pipe) ≡ compressed 128 (step wide) (pipe64 p) (now (s .entry))) × (r .waiting ≡ filled 128 (rest 128 (now (s .entry)))) ⌝ }
+{
+    let pipe = block::steps64(p, s);
+    let from = s.len() / 128 * 128;
+    let waiting = hold(&s[from..], &s[..0]);
+    Absorbed { pipe, waiting }
+}
+
+// The pending bytes `a`, and then `s`: only what completes a block that is begun, and what is left over, is copied.
+fn absorb(p: Pipe64, a: &[u8], s: &[u8]) -> Absorbed
+    requires { ⌜ length (now a) < 128 ⌝ }
+    ensures { λ r. ⌜ (pipe64 (r .pipe) ≡ compressed 128 (step wide) (pipe64 p) (now (a .entry) ++ now (s .entry)))
+        × (r .waiting ≡ filled 128 (rest 128 (now (a .entry) ++ now (s .entry)))) ⌝ }
+{
+    if a.len() == 0 {
+        return straight(p, s);
+    }
+    let need = 128 - a.len();
+    if s.len() < need {
+        let waiting = hold(a, s);
+        return Absorbed { pipe: p, waiting };
+    }
+    let first = hold(a, &s[..need]);
+    let q = block::step64(p, &first);
+    straight(q, &s[need..])
+}
+
+// The pipe behind the last block: the pending bytes `w`, the byte of the one bit, zeros and the length in bits.
+fn close(p: Pipe64, w: &[u8], mark: u8, bits: u64) -> Pipe64
+    requires { ⌜ length (now w) < 128 ⌝ }
+    ensures { λ r. ⌜ pipe64 r ≡ closed wideKind (pipe64 p) (now (w .entry)) (length (now (w .entry))) mark bits ⌝ }
+{
+    let mut buf = [0u8; 256];
+    let n = padding::tail(&mut buf, w, 128, mark, bits);
+    block::steps64(p, &buf[..n])
+}
+
+// A hash of `size` bits is opened.
+pub fn open(size: u32) -> Outcome
+    ensures { λ r. ⌜ r ≡ opened size ⌝ }
+{
+    let answer = refusal::opening(384, 512, size);
+    if !answer::is_done(answer) {
+        let pipe = Pipe64 {
+            first: [0; 8],
+            second: [0; 8],
+        };
+        let state = Wide {
+            size: 0,
+            pipe,
+            waiting: [0; 128],
+            total: 0,
+        };
+        return Outcome { answer, state };
+    }
+    let pipe = block::start64(size);
+    let state = Wide {
+        size,
+        pipe,
+        waiting: [0; 128],
+        total: 0,
+    };
+    Outcome { answer, state }
+}
+
+// `hash` takes `bytes`.
+pub fn feed(hash: Wide, bytes: &[u8]) -> Outcome
+    ensures { λ r. ⌜ r ≡ fed hash (now (bytes .entry)) ⌝ }
+{
+    let size = hash.size;
+    let total = hash.total;
+    let answer = refusal::feeding(384, 512, size, total, bytes.len());
+    if !answer::is_done(answer) {
+        return Outcome {
+            answer,
+            state: hash,
+        };
+    }
+    let at = (total % 128) as usize;
+    let p = hash.pipe;
+    let w = hash.waiting;
+    let t = absorb(p, &w[..at], bytes);
+    let pipe = t.pipe;
+    let waiting = t.waiting;
+    let len = bytes.len() as u64;
+    let sum = total + len;
+    let state = Wide {
+        size,
+        pipe,
+        waiting,
+        total: sum,
+    };
+    Outcome { answer, state }
+}
+
+// The same for a hash that is lent, and finds itself advanced.
+pub fn feed_in(hash: &mut Wide, bytes: &[u8]) -> Answer
+    ensures { λ r. ⌜ (r ≡ fed (now (hash .entry)) (now (bytes .entry)) .answer)
+        × (now (hash .exit) ≡ fed (now (hash .entry)) (now (bytes .entry)) .state) ⌝ }
+{
+    let r = feed(*hash, bytes);
+    *hash = r.state;
+    r.answer
+}
+
+// The digest of what was fed, to the start of `out`. The caller's state stays as it is, and may be fed further.
+pub fn finish(hash: Wide, out: &mut [u8]) -> Answer
+    ensures { λ r. ⌜ r ≡ finishAnswer wideKind (hashOf hash) (now (out .entry)) ⌝ }
+    ensures { λ r. ⌜ now (out .exit) ≡ finishOut wideKind (hashOf hash) (now (out .entry)) ⌝ }
+{
+    let size = hash.size;
+    let total = hash.total;
+    let answer = refusal::finishing(384, 512, size, total, out.len());
+    if !answer::is_done(answer) {
+        return answer;
+    }
+    let at = (total % 128) as usize;
+    let p = hash.pipe;
+    let w = hash.waiting;
+    let q = close(p, &w[..at], 0x80, 8 * total);
+    block::write64(q, (size / 8) as usize, out);
+    answer
+}
+
+// The digest of `message`, to the start of `out`, for this kind's sizes.
+pub fn digest(size: u32, message: &[u8], out: &mut [u8]) -> Answer
+    ensures { λ r. ⌜ r ≡ digestAnswer wideKind size (now (message .entry)) (now (out .entry)) ⌝ }
+    ensures { λ r. ⌜ now (out .exit) ≡ digestOut wideKind size (now (message .entry)) (now (out .entry)) ⌝ }
+{
+    let answer = refusal::digesting(384, 512, size, message.len(), out.len());
+    if !answer::is_done(answer) {
+        return answer;
+    }
+    let q = block::steps64(block::start64(size), message);
+    let from = message.len() / 128 * 128;
+    let r = close(q, &message[from..], 0x80, 8 * (message.len() as u64));
+    block::write64(r, (size / 8) as usize, out);
+    answer
+}

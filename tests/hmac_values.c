@@ -1,0 +1,220 @@
+/*
+ * hmac_values file: the HMAC values that document 001 prints in section 3.16, made by
+ * FIPS 198-1 from the archive's digest, and from the reference with either half of the
+ * pipe as C0. The file's head gives its form.
+ */
+#include <ctype.h>
+#include <stdbool.h>
+#include <stdio.h>
+#include <stdlib.h>
+#include <string.h>
+
+#include "edonr.h"
+#include "harness/check.h"
+#include "reference/digest.h"
+
+enum { VECTORS = 16, MOST_KEY = 256, MOST_MESSAGE = 256, MOST_MAC = 64, MOST_LINE = 512 };
+
+typedef uint64_t digest_call(uint32_t size, const uint8_t *message, size_t message_len,
+                             uint8_t *out, size_t out_len);
+
+struct vector {
+    uint32_t size;
+    size_t printed_key_len, printed_message_len;
+    uint8_t key[MOST_KEY], message[MOST_MESSAGE], mac[MOST_MAC];
+    uint8_t shown[MOST_MAC]; /* the bits of mac that are compared */
+    size_t key_len, message_len, mac_len;
+};
+
+static void stop(const char *why)
+{
+    fprintf(stderr, "hmac_values: %s\n", why);
+    exit(2);
+}
+
+static uint8_t hex_digit(char digit)
+{
+    static const char digits[] = "0123456789ABCDEF";
+    const char *found = digit == '\0' ? NULL : strchr(digits, digit);
+    if (found == NULL)
+        stop("not a hexadecimal digit");
+    return (uint8_t)(found - digits);
+}
+
+static void add_key(struct vector *v, const char *text)
+{
+    for (; *text != '\0'; text += 2) {
+        if (v->key_len == MOST_KEY)
+            stop("a key is too long");
+        v->key[v->key_len++] = (uint8_t)(hex_digit(text[0]) << 4 | hex_digit(text[1]));
+    }
+}
+
+static void add_message(struct vector *v, const char *text)
+{
+    if (strlen(text) > MOST_MESSAGE - v->message_len)
+        stop("a message is too long");
+    memcpy(v->message + v->message_len, text, strlen(text));
+    v->message_len += strlen(text);
+}
+
+static void add_mac(struct vector *v, const char *text)
+{
+    while (*text != '\0') {
+        if (isspace((unsigned char)*text)) {
+            text++;
+            continue;
+        }
+        if (v->mac_len == MOST_MAC)
+            stop("a mac is too long");
+        for (unsigned i = 0; i < 2; i++, text++) {
+            bool shown = *text != '.';
+            unsigned shift = i == 0 ? 4 : 0;
+            v->shown[v->mac_len] |= (uint8_t)((shown ? 0xF : 0) << shift);
+            v->mac[v->mac_len] |= (uint8_t)((shown ? hex_digit(*text) : 0) << shift);
+        }
+        v->mac_len++;
+    }
+}
+
+/* Adds one line, a keyword and its value, to the vectors read so far. */
+static void add_line(struct vector *vectors, size_t *count, char *line)
+{
+    char *value = strchr(line, ' ');
+    if (value == NULL)
+        stop("a line without a value");
+    *value++ = '\0';
+    if (strcmp(line, "size") == 0) {
+        if (*count == VECTORS)
+            stop("too many cases");
+        vectors[*count] = (struct vector){.size = (uint32_t)strtoul(value, NULL, 10)};
+        ++*count;
+        return;
+    }
+    if (*count == 0)
+        stop("a case does not begin with its size");
+    struct vector *v = &vectors[*count - 1];
+    if (strcmp(line, "key_length") == 0)
+        v->printed_key_len = strtoul(value, NULL, 10);
+    else if (strcmp(line, "message_length") == 0)
+        v->printed_message_len = strtoul(value, NULL, 10);
+    else if (strcmp(line, "key") == 0)
+        add_key(v, value);
+    else if (strcmp(line, "message") == 0)
+        add_message(v, value);
+    else if (strcmp(line, "mac") == 0)
+        add_mac(v, value);
+    else
+        stop("an unknown keyword");
+}
+
+static size_t read_vectors(const char *path, struct vector *vectors)
+{
+    char line[MOST_LINE];
+    size_t count = 0;
+    FILE *file = fopen(path, "r");
+    if (file == NULL)
+        stop("the file cannot be opened");
+    while (fgets(line, sizeof line, file) != NULL) {
+        line[strcspn(line, "\r\n")] = '\0';
+        if (line[0] != '\0' && line[0] != '#')
+            add_line(vectors, &count, line);
+    }
+    fclose(file);
+    return count;
+}
+
+/* One digest of FIPS 198-1: of the key's block, mixed with a pad byte, and then the text.
+ */
+static void keyed_digest(digest_call *digest, uint32_t size, const uint8_t *key_block,
+                         uint8_t pad, const uint8_t *text, size_t text_len, uint8_t *out)
+{
+    uint8_t joined[128 + MOST_MESSAGE];
+    size_t block_len = size <= 256 ? 64 : 128;
+    for (size_t i = 0; i < block_len; i++)
+        joined[i] = key_block[i] ^ pad;
+    memcpy(joined + block_len, text, text_len);
+    digest(size, joined, block_len + text_len, out, size / 8);
+}
+
+static void hmac(digest_call *digest, const struct vector *v, uint8_t *mac)
+{
+    uint8_t key_block[128] = {0}, inner[MOST_MAC] = {0};
+    size_t block_len = v->size <= 256 ? 64 : 128;
+    if (v->key_len > block_len)
+        digest(v->size, v->key, v->key_len, key_block, v->size / 8);
+    else
+        memcpy(key_block, v->key, v->key_len);
+    keyed_digest(digest, v->size, key_block, 0x36, v->message, v->message_len, inner);
+    keyed_digest(digest, v->size, key_block, 0x5C, inner, v->size / 8, mac);
+}
+
+/* Whether the digest reproduces all of the printed value that can be read. */
+static bool reproduces(digest_call *digest, const struct vector *v)
+{
+    uint8_t mac[MOST_MAC] = {0};
+    hmac(digest, v, mac);
+    for (size_t i = 0; i < v->mac_len; i++)
+        if ((mac[i] & v->shown[i]) != v->mac[i])
+            return false;
+    return true;
+}
+
+static unsigned count_reproduced(digest_call *digest, const struct vector *vectors,
+                                 size_t count)
+{
+    unsigned reproduced = 0;
+    for (size_t i = 0; i < count; i++)
+        reproduced += reproduces(digest, &vectors[i]);
+    return reproduced;
+}
+
+static uint64_t digest_second_half_first(uint32_t size, const uint8_t *message,
+                                         size_t message_len, uint8_t *out, size_t out_len)
+{
+    return reference_digest_in_order(C0_IS_SECOND_HALF, size, message, message_len, out,
+                                     out_len);
+}
+
+static uint64_t digest_first_half_first(uint32_t size, const uint8_t *message,
+                                        size_t message_len, uint8_t *out, size_t out_len)
+{
+    return reference_digest_in_order(C0_IS_FIRST_HALF, size, message, message_len, out,
+                                     out_len);
+}
+
+static void check_file(const struct vector *vectors, size_t count)
+{
+    check_group("the vector file");
+    check(count == VECTORS, "%zu cases", count);
+    for (size_t i = 0; i < count; i++) {
+        const struct vector *v = &vectors[i];
+        check(v->key_len == v->printed_key_len, "case %zu: key of %zu bytes", i,
+              v->key_len);
+        check(v->message_len == v->printed_message_len, "case %zu: message of %zu bytes", i,
+              v->message_len);
+        check(v->mac_len == v->size / 8, "case %zu: mac of %zu bytes", i, v->mac_len);
+    }
+}
+
+int main(int argc, char **argv)
+{
+    static struct vector vectors[VECTORS];
+    size_t count = read_vectors(argc > 1 ? argv[1] : "tests/vectors/hmac.txt", vectors);
+    check_program("hmac_values");
+    check_file(vectors, count);
+
+    check_group("printed values from the archive");
+    for (size_t i = 0; i < count; i++)
+        check(reproduces(edonr_digest, &vectors[i]), "case %zu, size %u", i,
+              (unsigned)vectors[i].size);
+
+    unsigned second = count_reproduced(digest_second_half_first, vectors, count);
+    unsigned first = count_reproduced(digest_first_half_first, vectors, count);
+    check_group("printed values from the reference, by the order of the pipe's halves");
+    printf("  C0 the second half of the pipe: %u of %zu\n", second, count);
+    printf("  C0 the first half of the pipe: %u of %zu\n", first, count);
+    check(second == VECTORS, "C0 the second half: %u", second);
+    check(first == 0, "C0 the first half: %u", first);
+    return check_finish();
+}
