@@ -26,6 +26,7 @@ static const struct {
 } stages[] = {
     {'A', bench_product},
     {'B', bench_digest},
+    {'C', bench_sheets},
 };
 
 static double run_once(const struct work *work)

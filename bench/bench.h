@@ -20,5 +20,6 @@ void bench_measure(struct work *works, size_t count);
 /* One call for each stage; each prints its own table. */
 void bench_product(void);
 void bench_digest(void);
+void bench_sheets(void);
 
 #endif

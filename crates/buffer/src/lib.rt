@@ -87,20 +87,18 @@ fn left_division32(a: &[u8], b: &[u8], out: &mut [u8])
     requires { ⌜ 32 ≤ length (now a) ⌝ ∗ ⌜ 32 ≤ length (now b) ⌝ ∗ ⌜ 32 ≤ length (now out) ⌝ }
     ensures { λ _. ⌜ now (out .exit) ≡ onBytes leftDivision 32 (now (a .entry)) (now (b .entry)) ++ drop 32 (now (out .entry)) ⌝ }
 {
-    memory::store_vector32(
-        out,
-        division::left_division32(memory::load_vector32(a), memory::load_vector32(b)),
-    );
+    let g = vector::left_half32(memory::load_vector32(a));
+    let z = division::separated32(memory::load_vector32(b), g);
+    memory::store_vector32(out, division::right_undone32(z));
 }
 
 fn left_division64(a: &[u8], b: &[u8], out: &mut [u8])
     requires { ⌜ 64 ≤ length (now a) ⌝ ∗ ⌜ 64 ≤ length (now b) ⌝ ∗ ⌜ 64 ≤ length (now out) ⌝ }
     ensures { λ _. ⌜ now (out .exit) ≡ onBytes leftDivision 64 (now (a .entry)) (now (b .entry)) ++ drop 64 (now (out .entry)) ⌝ }
 {
-    memory::store_vector64(
-        out,
-        division::left_division64(memory::load_vector64(a), memory::load_vector64(b)),
-    );
+    let g = vector::left_half64(memory::load_vector64(a));
+    let z = division::separated64(memory::load_vector64(b), g);
+    memory::store_vector64(out, division::right_undone64(z));
 }
 
 // a\b, into the first `width` bytes of `out`.
@@ -124,20 +122,18 @@ fn right_division32(b: &[u8], a: &[u8], out: &mut [u8])
     requires { ⌜ 32 ≤ length (now b) ⌝ ∗ ⌜ 32 ≤ length (now a) ⌝ ∗ ⌜ 32 ≤ length (now out) ⌝ }
     ensures { λ _. ⌜ now (out .exit) ≡ onBytes rightDivision 32 (now (b .entry)) (now (a .entry)) ++ drop 32 (now (out .entry)) ⌝ }
 {
-    memory::store_vector32(
-        out,
-        division::right_division32(memory::load_vector32(b), memory::load_vector32(a)),
-    );
+    let h = vector::right_half32(memory::load_vector32(a));
+    let z = division::separated32(memory::load_vector32(b), h);
+    memory::store_vector32(out, division::left_undone32(z));
 }
 
 fn right_division64(b: &[u8], a: &[u8], out: &mut [u8])
     requires { ⌜ 64 ≤ length (now b) ⌝ ∗ ⌜ 64 ≤ length (now a) ⌝ ∗ ⌜ 64 ≤ length (now out) ⌝ }
     ensures { λ _. ⌜ now (out .exit) ≡ onBytes rightDivision 64 (now (b .entry)) (now (a .entry)) ++ drop 64 (now (out .entry)) ⌝ }
 {
-    memory::store_vector64(
-        out,
-        division::right_division64(memory::load_vector64(b), memory::load_vector64(a)),
-    );
+    let h = vector::right_half64(memory::load_vector64(a));
+    let z = division::separated64(memory::load_vector64(b), h);
+    memory::store_vector64(out, division::left_undone64(z));
 }
 
 // b/a, into the first `width` bytes of `out`.

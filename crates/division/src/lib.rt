@@ -10,8 +10,9 @@ ghost use Rattle.division.specs.Balance.{balance, twoFifths};
 
 mod tables;
 
-// The result's words in the order of the combinations, less the half that is known.
-fn separated32(b: [u32; 8], h: [u32; 8]) -> [u32; 8]
+// The result's words in the order of the combinations, less the half that is known. As with the product's halves, a caller that divides where
+// it counts puts a division together from its parts.
+pub fn separated32(b: [u32; 8], h: [u32; 8]) -> [u32; 8]
     ensures { λ z. ⌜ z ≡ separated 32 b h ⌝ }
 {
     [
@@ -110,7 +111,7 @@ fn left_unsummed32(s: [u32; 8]) -> [u32; 8]
 }
 
 // The vector whose left half is `z`.
-fn left_undone32(z: [u32; 8]) -> [u32; 8]
+pub fn left_undone32(z: [u32; 8]) -> [u32; 8]
     ensures { λ x. ⌜ x ≡ unleft narrow z ⌝ }
 {
     left_unsummed32(left_unrotated32(z))
@@ -152,7 +153,7 @@ fn right_unsummed32(s: [u32; 8]) -> [u32; 8]
 }
 
 // The vector whose right half is `z`.
-fn right_undone32(z: [u32; 8]) -> [u32; 8]
+pub fn right_undone32(z: [u32; 8]) -> [u32; 8]
     ensures { λ x. ⌜ x ≡ unright narrow z ⌝ }
 {
     right_unsummed32(right_unrotated32(z))
@@ -173,7 +174,7 @@ pub fn right_division32(b: [u32; 8], a: [u32; 8]) -> [u32; 8]
 }
 
 // The result's words in the order of the combinations, less the half that is known.
-fn separated64(b: [u64; 8], h: [u64; 8]) -> [u64; 8]
+pub fn separated64(b: [u64; 8], h: [u64; 8]) -> [u64; 8]
     ensures { λ z. ⌜ z ≡ separated 64 b h ⌝ }
 {
     [
@@ -272,7 +273,7 @@ fn left_unsummed64(s: [u64; 8]) -> [u64; 8]
 }
 
 // The vector whose left half is `z`.
-fn left_undone64(z: [u64; 8]) -> [u64; 8]
+pub fn left_undone64(z: [u64; 8]) -> [u64; 8]
     ensures { λ x. ⌜ x ≡ unleft wide z ⌝ }
 {
     left_unsummed64(left_unrotated64(z))
@@ -314,7 +315,7 @@ fn right_unsummed64(s: [u64; 8]) -> [u64; 8]
 }
 
 // The vector whose right half is `z`.
-fn right_undone64(z: [u64; 8]) -> [u64; 8]
+pub fn right_undone64(z: [u64; 8]) -> [u64; 8]
     ensures { λ x. ⌜ x ≡ unright wide z ⌝ }
 {
     right_unsummed64(right_unrotated64(z))

@@ -5,6 +5,7 @@ ghost use Rattle.quasigroup.specs.Product.{product};
 ghost use Rattle.quasigroup.specs.Division.{leftDivision, rightDivision};
 ghost use Rattle.buffer.specs.Operation.{answerFor, outputAfter};
 ghost use Rattle.digest.specs.OneCall.{oneCallAnswer, oneCallOut};
+ghost use Rattle.sheet.specs.Run.{Forward, Backward, runAnswer, runBytes};
 
 // X*Y, into the first `width` bytes of `out`.
 #[no_mangle]
@@ -40,4 +41,22 @@ pub extern "C" fn edonr_digest(size: u32, message: &[u8], out: &mut [u8]) -> u64
     ensures { λ _. ⌜ now (out .exit) ≡ oneCallOut size (now (message .entry)) (now (out .entry)) ⌝ }
 {
     answer::number(one_call::digest(size, message, out))
+}
+
+// A forward run of the sheet over the lent vectors.
+#[no_mangle]
+pub extern "C" fn edonr_run_forward(width: u32, vectors: &mut [u8], sheet: &[u8]) -> u64
+    ensures { λ r. ⌜ r ≡ numberOf (runAnswer width (now (sheet .entry)) (now (vectors .entry))) ⌝ }
+    ensures { λ _. ⌜ now (vectors .exit) ≡ runBytes Forward width (now (sheet .entry)) (now (vectors .entry)) ⌝ }
+{
+    answer::number(run::run_forward(width, vectors, sheet))
+}
+
+// A backward run of the sheet over the lent vectors: it undoes a forward run.
+#[no_mangle]
+pub extern "C" fn edonr_run_backward(width: u32, vectors: &mut [u8], sheet: &[u8]) -> u64
+    ensures { λ r. ⌜ r ≡ numberOf (runAnswer width (now (sheet .entry)) (now (vectors .entry))) ⌝ }
+    ensures { λ _. ⌜ now (vectors .exit) ≡ runBytes Backward width (now (sheet .entry)) (now (vectors .entry)) ⌝ }
+{
+    answer::number(run::run_backward(width, vectors, sheet))
 }

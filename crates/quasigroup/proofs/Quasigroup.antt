@@ -6,7 +6,7 @@ use mathlib.Core.List.{List}
 use lib.ListN.{length}
 use Rattle.quasigroup.specs.Tables.{Width, leftSums, rightSums, narrow, wide}
 use Rattle.quasigroup.specs.Product.{leftHalf, rightHalf, joined, product}
-use Rattle.quasigroup.specs.Division.{leftUnxors, rightUnxors, leftInverse, rightInverse, unleft, unright, leftDivision, rightDivision}
+use Rattle.quasigroup.specs.Division.{leftUnxors, rightUnxors, leftInverse, rightInverse, separated, unleft, unright, leftDivision, rightDivision}
 use Rattle.quasigroup.specs.Vector.{Below, Vector}
 use Rattle.quasigroup.specs.Theorem.{OnlySolution, Quasigroup}
 use Rattle.quasigroup.proofs.Modulo.{below-test}
@@ -46,6 +46,15 @@ pub record Fits (s : Width) : Type 0 where
 pub from-halves : (s : Width) (x y : List ℕ) {l r z : List ℕ} → l ≡ leftHalf s x → r ≡ rightHalf s y → z ≡ joined (s .bits) l r → z ≡ product s x y
 unfolding product
 from-halves s x y a b c = c ∙ ap₂ (joined (s .bits)) a b
+
+-- a division from the half that is known and the other one undone
+pub left-from-halves : (s : Width) (a b : List ℕ) {h z x : List ℕ} → h ≡ leftHalf s a → z ≡ separated (s .bits) b h → x ≡ unright s z → x ≡ leftDivision s a b
+unfolding leftDivision
+left-from-halves s a b e f g = g ∙ ap (unright s) (f ∙ ap (separated (s .bits) b) e)
+
+pub right-from-halves : (s : Width) (b a : List ℕ) {h z x : List ℕ} → h ≡ rightHalf s a → z ≡ separated (s .bits) b h → x ≡ unleft s z → x ≡ rightDivision s b a
+unfolding rightDivision
+right-from-halves s b a e f g = g ∙ ap (unleft s) (f ∙ ap (separated (s .bits) b) e)
 
 module _ (s : Width) (h : Fits s) where
   left-undo : Undo (s .bits) (leftHalf s) (unleft s)

@@ -1,0 +1,4 @@
+// The lister on an empty file.
+fn main() {
+    printing::print_file();
+}

@@ -1,0 +1,4 @@
+// The lister without a file.
+fn main() {
+    printing::print_file();
+}

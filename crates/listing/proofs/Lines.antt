@@ -1,0 +1,57 @@
+-- The lines of a sheet, command by command, and a listing by what the check found. Assumes nothing.
+use mathlib.Core.Path.{_≡_, ap, ap₂, sym, _∙_}
+use mathlib.Core.List.{List, [], _++_}
+use Prim.Native.Nat.{ℕ, _+_}
+use native.Mathlib.Omega.{arith}
+use lib.ListN.{length, length-append}
+use lib.Seq.{sets}
+use Rattle.answer.specs.declared.Refusal.{Refusal}
+use Rattle.answer.specs.Number.{refusalNumber}
+use Rattle.sheet.specs.declared.Command.{Command}
+use Rattle.sheet.specs.declared.Read.{Read}
+use Rattle.sheet.specs.declared.Read.the-variants.{Got, Fault, End}
+use Rattle.sheet.specs.declared.Summary.the-variants.{Whole, Faulty}
+use Rattle.sheet.specs.Read.{readAt}
+use Rattle.sheet.specs.Sheet.{Plan, scanFrom, planOf}
+use Rattle.sheet.specs.Work.{summary}
+use Rattle.sheet.proofs.Rest.{rest-got, rest-fault, rest-end}
+use Rattle.sheet.proofs.Ran.{checked, faulted, whole-scanned}
+use Rattle.listing.specs.Listing.{line, lineOf, lines, endLine, refusedLine, listing}
+use Rattle.listing.specs.Pushed.{Pushed}
+use Rattle.listing.proofs.Texts.{sets-append}
+
+-- the lines of the commands from offset i on
+abbrev pub rest : ℕ → List ℕ → ℕ → List ℕ
+rest w s i = lines w s (scanFrom (length s) w s i .offsets)
+
+module _ (w : ℕ) (s l₀ l : List ℕ) (next i : ℕ) (now : sets l next (rest w s i) ≡ sets l₀ 0 (rest w s 0)) (far : next + length (rest w s i) ≡ length (rest w s 0)) where
+  module _ (c : Command) (n : ℕ) (e : readAt w s i ≡ Got c n) where
+    rest-more : rest w s i ≡ line i c ++ rest w s n
+    rest-more = ap (λ (p : Plan). lines w s (p .offsets)) (rest-got w s i c n e) ∙ ap (λ (r : Read). lineOf i r ++ rest w s n) e
+
+    pub lines-more : {m : List ℕ} {k : ℕ} → Pushed l next (line i c) m k → (sets m k (rest w s n) ≡ sets l₀ 0 (rest w s 0)) × (k + length (rest w s n) ≡ length (rest w s 0))
+    lines-more {m} {k} p =
+        let f = p .behind in
+        let g : length (rest w s i) ≡ length (line i c) + length (rest w s n) = ap length rest-more ∙ length-append (line i c) (rest w s n) in (
+          ap₂ {C = List ℕ} (λ a b. sets a b (rest w s n)) (p .stored) f ∙ sym (sets-append l next (line i c) (rest w s n)) ∙ ap (sets l next) (sym rest-more) ∙ now,
+          omega arith,
+        )
+
+  over : rest w s i ≡ [] → Pushed l₀ 0 (rest w s 0) l next
+  over e = record { stored = rw e at now; behind = let f : next + 0 ≡ length (rest w s 0) = rw e at far in omega arith }
+
+  pub lines-fault : (r : Refusal) → readAt w s i ≡ Fault r → Pushed l₀ 0 (rest w s 0) l next
+  lines-fault r e = over (ap (λ (p : Plan). lines w s (p .offsets)) (rest-fault w s i r e))
+
+  pub lines-end : readAt w s i ≡ End → Pushed l₀ 0 (rest w s 0) l next
+  lines-end e = over (ap (lines w s) (rest-end w s i e))
+
+-- a sheet that was found sound, and one that was not
+module _ (w : ℕ) (s : List ℕ) where
+  pub listed-whole : {n t : ℕ} → Whole n t ≡ summary w s (planOf w s) → rest w s 0 ++ endLine (length s) n ≡ listing w s
+  listed-whole e =
+      let c = checked w s e in
+      rw (c .sound, c .count, whole-scanned w s e)
+
+  pub listed-faulty : (r : Refusal) (i : ℕ) → Faulty r i ≡ summary w s (planOf w s) → refusedLine (refusalNumber r) i ≡ listing w s
+  listed-faulty r i e = rw (faulted w s r i e)

@@ -1,0 +1,42 @@
+-- Document 01, "The load sheet": a whole sheet, command by command. Assumes nothing.
+use mathlib.Core.Bool.{cond}
+use mathlib.Core.List.{List, [], _∷_}
+use Prim.Native.Nat.{ℕ, zero, suc}
+use lib.Dec.{ltb}
+use lib.ListN.{length}
+use Rattle.answer.specs.declared.Refusal.{Refusal}
+use Rattle.answer.specs.declared.Refusal.the-variants.{Sheet}
+use Rattle.sheet.specs.declared.Read.{Read}
+use Rattle.sheet.specs.declared.Read.the-variants.{Got, Fault, End}
+use Rattle.sheet.specs.Read.{readAt}
+
+-- every command is sound, or there is a first fault: its refusal, and the offset of the faulty command's first byte
+pub data Outcome : Type 0 where
+  Sound : Outcome
+  Faulty : Refusal → ℕ → Outcome
+
+-- the offsets of the commands before the sheet's end or its first fault, and which of the two comes then
+pub record Plan : Type 0 where
+  pub offsets : List ℕ
+  pub outcome : Outcome
+
+abbrev pub refused : Refusal → ℕ → Plan
+refused r i = record { offsets = []; outcome = Faulty r i }
+
+abbrev pub behind : ℕ → Plan → Plan
+behind i p = record { offsets = i ∷ p .offsets; outcome = p .outcome }
+
+-- with what stands at offset i, and the rest of the plan from the offset behind it
+abbrev pub continue : Read → ℕ → (ℕ → Plan) → Plan
+continue (Got c n) i rest = behind i (rest n)
+continue (Fault r) i rest = refused r i
+continue End i rest = record { offsets = []; outcome = Sound }
+
+-- at most f commands from offset i on; each takes a byte at least, so f = length s is enough
+abbrev pub scanFrom : ℕ → ℕ → List ℕ → ℕ → Plan
+scanFrom zero w s i = record { offsets = []; outcome = Sound }
+scanFrom (suc f) w s i = continue (readAt w s i) i (scanFrom f w s)
+
+-- a whole sheet at width w: 7, over 4,096 bytes; then command by command
+unfoldable pub planOf : ℕ → List ℕ → Plan
+planOf w s = cond (ltb 4096 (length s)) (refused Sheet 0) (scanFrom (length s) w s 0)

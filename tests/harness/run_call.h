@@ -1,0 +1,33 @@
+/*
+ * One run of a sheet, made by the archive and by the reference.
+ */
+#ifndef HARNESS_RUN_CALL_H
+#define HARNESS_RUN_CALL_H
+
+#include <stddef.h>
+#include <stdint.h>
+
+enum direction { FORWARD, BACKWARD, DIRECTIONS };
+
+typedef uint64_t run_function(uint32_t width, uint8_t *vectors, size_t vectors_len,
+                              const uint8_t *sheet, size_t sheet_len);
+
+extern run_function *const archive_runs[DIRECTIONS];
+extern run_function *const reference_runs[DIRECTIONS];
+
+/* The most lent bytes and the longest sheet of a compared run. */
+enum { RUN_CALL_VECTORS = 1024, RUN_CALL_SHEET = 8192 };
+
+struct run {
+    enum direction direction;
+    uint32_t width;
+    const uint8_t *sheet;
+    size_t sheet_len;
+};
+
+/* Counts one comparison: it passes if both give the same answer and leave the same
+   vectors, sheet and guards stand, and a refusal leaves the vectors. Afterwards vectors
+   holds what the archive left. Returns the archive's answer. */
+uint64_t check_run_call(const struct run *run, uint8_t *vectors, size_t vectors_len);
+
+#endif

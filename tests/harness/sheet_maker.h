@@ -1,0 +1,28 @@
+/*
+ * Random sheets, sound and damaged.
+ */
+#ifndef HARNESS_SHEET_MAKER_H
+#define HARNESS_SHEET_MAKER_H
+
+#include <stddef.h>
+#include <stdint.h>
+
+#include "rng.h"
+
+enum { SHEET_MOST_BYTES = 4096, SHEET_MOST_APPENDED = 64 };
+
+struct sheet {
+    uint8_t bytes[SHEET_MOST_BYTES + SHEET_MOST_APPENDED];
+    size_t len;
+    size_t offsets[SHEET_MOST_BYTES / 2]; /* where the commands begin, as made */
+    size_t count;
+};
+
+/* A sheet of exactly len bytes that a run at this width accepts. No command takes one
+   byte, so len is not 1; it is at most SHEET_MOST_BYTES. */
+void make_sheet(struct rng *rng, uint32_t width, size_t len, struct sheet *sheet);
+
+/* One random damage; some damages leave another sheet that is accepted. */
+void damage_sheet(struct rng *rng, struct sheet *sheet);
+
+#endif
