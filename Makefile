@@ -1,23 +1,60 @@
-# make: the archive. make demo: a product and both divisions. make test: the gate. make bench: ratios against C.
-CC ?= gcc
-CFLAGS ?= -std=c11 -O3 -Wall -Wextra -pedantic -Werror
-ARCHIVE = target/staticlib/libedonr.a
+# The EDON-R load kit, for those who use it from C.
+#
+#   make                the archive target/staticlib/libedonr.a, and target/probe/edonr-probe
+#   make run            a probe run of a few seconds
+#   make test           the gate: everything is proved and run from nothing
+#   make bench          the benchmark's table
+#   make install        archive, header and probe under $(DESTDIR)$(PREFIX)
+#   make uninstall      removes those three
+#   make clean          removes all that was built, proofs included
 
-.PHONY: all demo test bench clean
+CC = gcc
+CFLAGS = -O2
+PREFIX = /usr/local
+DESTDIR =
 
-all:
+warnings = -Wall -Wextra -pedantic -Werror
+archive = target/staticlib/libedonr.a
+probe = target/probe/edonr-probe
+bench = target/bench/edonr-bench
+header = include/edonr.h
+bench_sources = $(wildcard bench/*.[ch] tests/harness/*.[ch] tests/reference/*.[ch])
+prefix = $(DESTDIR)$(PREFIX)
+
+.PHONY: all run test bench install uninstall clean
+
+all: $(archive) $(probe)
+
+# rt proves only what has changed and may leave the archive as it is; its time must follow.
+$(archive): crates.txt $(shell find crates -type f)
 	rt staticlib edonr
+	touch $@
 
-demo: all
-	mkdir -p target/c
-	$(CC) $(CFLAGS) -Iinclude examples/round_trip.c $(ARCHIVE) -o target/c/round_trip
-	target/c/round_trip
+$(probe): $(wildcard probe/*.c probe/*.h) $(header) $(archive)
+	mkdir -p $(@D)
+	$(CC) -std=c11 $(CFLAGS) $(warnings) -pthread -Iinclude $(filter %.c,$^) $(archive) -o $@
+
+$(bench): $(bench_sources) $(header) $(archive)
+	@mkdir -p $(@D)
+	@$(CC) -std=c11 -O3 $(warnings) -Iinclude $(filter %.c,$^) $(archive) -o $@
+
+run: $(probe)
+	$(probe) --seconds 3
 
 test:
 	bash .ci/run
 
-bench: all
-	tests/run_c A B bench
+bench: $(bench)
+	@$(bench)
+
+install: all
+	install -d $(prefix)/lib $(prefix)/include $(prefix)/bin
+	install -m 644 $(archive) $(prefix)/lib
+	install -m 644 $(header) $(prefix)/include
+	install -m 755 $(probe) $(prefix)/bin
+
+uninstall:
+	rm -f $(prefix)/lib/libedonr.a $(prefix)/include/edonr.h $(prefix)/bin/edonr-probe
 
 clean:
 	rm -rf target

@@ -11,12 +11,13 @@
  *   number, plus an offset, which is 0 unless the call says otherwise. A call refuses
  *   when, and only when, one of its conditions holds; conditions are tried in the order
  *   that the call lists them, and the first that holds decides. A refusal writes nothing.
- *   A success writes the bytes that the call names and no others.
+ *   A success writes the bytes that the call names and no others. Hashing in pieces (D)
+ *   marks its refusals in another way, and says where it departs from this.
  *
  * What a caller must keep
- *   The buffers of one call do not overlap, and each has the length given with it. No
- *   call can test this, and nothing else is asked of the caller: every other argument is
- *   checked.
+ *   The buffers of one call do not overlap, and each has the length given with it; a
+ *   pointer is valid even where its length is 0. No call can test this, and nothing else
+ *   is asked of the caller: every other argument is checked.
  *
  * Threads
  *   Nothing is kept between calls: no state, no tables filled at first use, no memory
@@ -173,6 +174,134 @@ uint64_t edonr_run_forward(uint32_t width, uint8_t *vectors, size_t vectors_len,
  */
 uint64_t edonr_run_backward(uint32_t width, uint8_t *vectors, size_t vectors_len,
                             const uint8_t *sheet, size_t sheet_len);
+
+/* ============================ D. Hashing in pieces ============================ */
+
+/*
+ * A hash in progress is a struct that the caller holds: opened, fed any number of times,
+ * and finished any number of times. There is a narrow kind for the sizes 224 and 256 and
+ * a wide kind for 384 and 512. What comes out is edonr_digest of all bytes fed, however
+ * they were cut.
+ *
+ * Its fields are open. Nothing is hidden beside it: a copy goes its own way. A struct of
+ * any bytes at all may be fed and finished. It is in form if its size is one of its
+ * kind's two and its total is at most 2^61 - 1; otherwise the call refuses.
+ *
+ * Of waiting the first total modulo block length bytes are waiting for their block to
+ * fill. The bytes behind them never matter; opening and each accepted feeding leave them
+ * zero. The compiler's four bytes of padding (behind waiting in the narrow struct, behind
+ * size in the wide one) are no part of a hash, and no call promises anything of them: a
+ * feeding can leave there bytes of what it worked on. So two hashes are compared field by
+ * field, and a hash that leaves the program is written field by field.
+ *
+ * Answers
+ *   A total can be past 2^32, so a refusal of these six calls has bit 63 set beside its
+ *   number: it is EDONR_HASH_REFUSED + 2^32 times the refusal number. A success is its
+ *   own number, below 2^61. edonr_hash_refusal tells them apart; edonr_refusal does not.
+ *
+ * What a caller must keep
+ *   hash points to one struct of its kind, which overlaps no buffer of the same call.
+ *   Before opening it may hold anything.
+ */
+
+#define EDONR_REFUSED_STATE 2 /* the hash in progress is not in form */
+
+#define EDONR_HASH_REFUSED ((uint64_t)1 << 63) /* set in the answer of a refusal */
+
+/* The refusal number of an answer of these calls; 0 for a success. */
+static inline uint32_t edonr_hash_refusal(uint64_t answer)
+{
+    return answer < EDONR_HASH_REFUSED ? 0 : (uint32_t)(answer >> 32 & 0x7FFFFFFFu);
+}
+
+/* The answer that a refusal of these calls gives. */
+static inline uint64_t edonr_hash_refused(uint32_t refusal)
+{
+    return EDONR_HASH_REFUSED + ((uint64_t)refusal << 32);
+}
+
+struct edonr_narrow {
+    uint32_t size;       /* 224 or 256 */
+    uint32_t first[8];   /* the pipe's first vector */
+    uint32_t second[8];  /* and its second */
+    uint8_t waiting[64]; /* one block */
+    uint64_t total;      /* the number of bytes fed so far */
+};
+
+struct edonr_wide {
+    uint32_t size;        /* 384 or 512 */
+    uint64_t first[8];    /* the pipe's first vector */
+    uint64_t second[8];   /* and its second */
+    uint8_t waiting[128]; /* one block */
+    uint64_t total;       /* the number of bytes fed so far */
+};
+
+/*
+ * Opens a hash of the narrow kind, whatever hash held before.
+ *
+ * Writes   hash: the starting state of this size, or, beside a refusal, zeros, which are
+ *          not in form. It is the one call that writes although it refuses.
+ * Returns  0.
+ * Refuses  1 EDONR_REFUSED_SIZE  size is neither 224 nor 256.
+ */
+uint64_t edonr_narrow_open(struct edonr_narrow *hash, uint32_t size);
+
+/*
+ * Feeds bytes to a hash of the narrow kind.
+ *
+ * Reads    hash, and bytes, bytes_len of them; none is fine.
+ * Writes   on success hash: the state after these bytes. A refusal leaves it.
+ * Returns  the new total, at most 2^61 - 1.
+ * Refuses  in this order:
+ *          2 EDONR_REFUSED_STATE    hash is not in form;
+ *          3 EDONR_REFUSED_MESSAGE  the total would pass 2^61 - 1.
+ */
+uint64_t edonr_narrow_feed(struct edonr_narrow *hash, const uint8_t *bytes,
+                           size_t bytes_len);
+
+/*
+ * Writes the digest of what a hash of the narrow kind was fed. The hash stays as it is,
+ * so feeding may go on.
+ *
+ * Reads    hash.
+ * Writes   on success the first size/8 bytes of out: the digest. Bytes behind them stay.
+ * Returns  size/8, that is 28 or 32.
+ * Refuses  in this order:
+ *          2 EDONR_REFUSED_STATE   hash is not in form;
+ *          4 EDONR_REFUSED_OUTPUT  out_len is under size/8.
+ */
+uint64_t edonr_narrow_finish(const struct edonr_narrow *hash, uint8_t *out, size_t out_len);
+
+/*
+ * Opens a hash of the wide kind, whatever hash held before.
+ *
+ * Writes   hash: the starting state of this size, or, beside a refusal, zeros, which are
+ *          not in form.
+ * Returns  0.
+ * Refuses  1 EDONR_REFUSED_SIZE  size is neither 384 nor 512.
+ */
+uint64_t edonr_wide_open(struct edonr_wide *hash, uint32_t size);
+
+/*
+ * Feeds bytes to a hash of the wide kind.
+ *
+ * Reads    hash, and bytes, bytes_len of them; none is fine.
+ * Writes   on success hash: the state after these bytes. A refusal leaves it.
+ * Returns  the new total, at most 2^61 - 1.
+ * Refuses  what edonr_narrow_feed refuses, with the same answers.
+ */
+uint64_t edonr_wide_feed(struct edonr_wide *hash, const uint8_t *bytes, size_t bytes_len);
+
+/*
+ * Writes the digest of what a hash of the wide kind was fed. The hash stays as it is, so
+ * feeding may go on.
+ *
+ * Reads    hash.
+ * Writes   on success the first size/8 bytes of out: the digest. Bytes behind them stay.
+ * Returns  size/8, that is 48 or 64.
+ * Refuses  what edonr_narrow_finish refuses, with the same answers.
+ */
+uint64_t edonr_wide_finish(const struct edonr_wide *hash, uint8_t *out, size_t out_len);
 
 #ifdef __cplusplus
 }

@@ -12,6 +12,7 @@ ghost use Rattle.block.specs.Pipes.{pipe32, pipe64};
 
 mod tables;
 
+#[repr(C)]
 pub struct Pipe32 {
     pub first: [u32; 8],
     pub second: [u32; 8],
@@ -99,6 +100,7 @@ pub fn write32(p: Pipe32, n: usize, out: &mut [u8])
     memory::copy_at(out, 0, &b[from..]);
 }
 
+#[repr(C)]
 pub struct Pipe64 {
     pub first: [u64; 8],
     pub second: [u64; 8],

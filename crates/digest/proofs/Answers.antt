@@ -27,7 +27,7 @@ passed true r a e = (refl, e)
 passed false r a e = let z : _≡_ {A = ℕ} 0 1 = cc in absurd (omega arith)
 
 -- a size is at most the larger of the two
-size-bound : (small large n most : ℕ) → small ≤ most → large ≤ most → isSize small large n ≡ true → n ≤ most
+pub size-bound : (small large n most : ℕ) → small ≤ most → large ≤ most → isSize small large n ≡ true → n ≤ most
 size-bound small large n most p q e = either (eqb n small) (eqb-true n small) e
   where
     either : (b : Bool) → (b ≡ true → n ≡ small) → b || eqb n large ≡ true → n ≤ most

@@ -15,6 +15,7 @@ use answer::Answer;
 use block::Pipe32;
 
 // A hash in progress. Of `waiting` the first `total` modulo 64 bytes are waiting, which is document 01's word: fed, and not yet part of a block.
+#[repr(C)]
 pub struct Narrow {
     pub size: u32,
     pub pipe: Pipe32,

@@ -1,1 +1,1 @@
-// One proof in the program logic, in proofs/, of every thin function over a lent struct. There is no code here.
+// The proofs in the program logic, in proofs/, of the thin functions over a lent struct: one walk for each shape. There is no code here.

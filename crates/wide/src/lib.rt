@@ -15,6 +15,7 @@ use answer::Answer;
 use block::Pipe64;
 
 // A hash in progress. Of `waiting` the first `total` modulo 128 bytes are waiting, which is document 01's word: fed, and not yet part of a block.
+#[repr(C)]
 pub struct Wide {
     pub size: u32,
     pub pipe: Pipe64,

@@ -1,0 +1,11 @@
+use mathlib.Core.Path.{ap, _∙_}
+use borrow.Author.Needs.{needs}
+use Rattle.pieces.specs.Piece.{narrowPiece}
+use Rattle.pieces.proofs.narrow_open.Statement.{statement}
+use Rattle.pieces.proofs.narrow_open.Tie as tie
+
+returns : tie.Need-returns
+returns c = c .narrow-piece .ensures ∙ ap narrowPiece (c .before .«open» .ensures)
+
+pub narrow-open-spec : {M : Type 1} → statement M
+narrow-open-spec = tie.close (tie.spec (λ c κs. search needs) (λ c κs. search needs) returns)
