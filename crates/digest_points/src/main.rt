@@ -425,7 +425,7 @@ fn fourth(size: u32, block: usize, printed: &[u8])
 
 // 001, section 3.16. The text at hand is a scan, read with the digit 0 for the letter O and B for R, which is no digit. Of the first value at 384
 // it has the last 16 bytes alone. In the last value at 512, where it has R for B five times, it has 7F at byte 53, and the digest gives 7E.
-fn narrow_examples() {
+fn examples_224() {
     first(
         224,
         64,
@@ -448,6 +448,9 @@ fn narrow_examples() {
         64,
         b"92E297FF91BB08B9B2C68F6D2DA82F33353CA617C721DA0BFC03D801",
     );
+}
+
+fn examples_256() {
     first(
         256,
         64,
@@ -522,6 +525,7 @@ fn main() {
     count_up(&mut m, 0);
     narrow_cuts(&m);
     wide_cuts(&m);
-    narrow_examples();
+    examples_224();
+    examples_256();
     wide_examples();
 }

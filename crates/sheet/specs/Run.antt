@@ -9,7 +9,6 @@ use Rattle.answer.specs.declared.Answer.the-variants.{Done, Refused}
 use Rattle.answer.specs.declared.Refusal.the-variants.{Width, Operand}
 use Rattle.memory.specs.Bytes.{bytesOf}
 use Rattle.quasigroup.specs.Tables.{known}
-use Rattle.quasigroup.specs.Tables.{known}
 use Rattle.sheet.specs.declared.Command.{Command}
 use Rattle.sheet.specs.declared.Read.{Read}
 use Rattle.sheet.specs.declared.Read.the-variants.{Got, Fault, End}
