@@ -2,7 +2,7 @@
 #
 #   make                the archive target/staticlib/libedonr.a, and target/probe/edonr-probe
 #   make run            a probe run of a few seconds
-#   make test           the gate: everything is proved and run from nothing
+#   make test           all tests: everything is proved and run from nothing; the gate calls it
 #   make bench          the benchmark's table
 #   make install        archive, header and probe under $(DESTDIR)$(PREFIX)
 #   make uninstall      removes those three
@@ -42,7 +42,7 @@ run: $(probe)
 	$(probe) --seconds 3
 
 test:
-	bash .ci/run
+	@bash tests/gate
 
 bench: $(bench)
 	@$(bench)
