@@ -1,1 +1,2 @@
 pub mod Refuse
+pub mod Told

@@ -28,3 +28,8 @@ done-outcome (Refused r at) new old e = never e
 pub unless-done : (t : Bool) (r : Refusal) (next : Answer) → isDone (unless t r next) ≡ true → (t ≡ true) × (isDone next ≡ true)
 unless-done true r next e = (refl, e)
 unless-done false r next e = never e
+
+-- what an answer leaves of what it left already
+pub outcome-again : {A B : Type 0} (a : Answer) (of : A → B) (new none : A) (old : B) → outcome a (of (outcome a new none)) old ≡ outcome a (of new) old
+outcome-again (Done n) of new none old = refl
+outcome-again (Refused r at) of new none old = refl

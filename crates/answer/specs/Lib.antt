@@ -1,2 +1,3 @@
 pub mod Number
 pub mod Refuse
+pub mod Told

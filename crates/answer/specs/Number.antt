@@ -22,3 +22,8 @@ refusalNumber SamePlace = 11
 abbrev pub numberOf : Answer → ℕ
 numberOf (Done n) = n
 numberOf (Refused r at) = refusalNumber r * 2 ^ 32 + at
+
+-- The same for a call whose success can pass 2^32, as a total of bytes can: a refusal has bit 63 set besides.
+abbrev pub markedNumber : Answer → ℕ
+markedNumber (Done n) = n
+markedNumber (Refused r at) = 2 ^ 63 + numberOf (Refused r at)

@@ -1,7 +1,7 @@
 // What an operation of the kit answers: a success with its number, or a refusal with an offset.
 ghost use mathlib.Core.Path.{_≡_};
 ghost use Prim.Native.Nat.{_<_};
-ghost use Rattle.answer.specs.Number.{refusalNumber, numberOf};
+ghost use Rattle.answer.specs.Number.{refusalNumber, numberOf, markedNumber};
 ghost use Rattle.answer.specs.Refuse.{isDone};
 
 // Why a call is refused. `specs/Number.antt` gives document 01's number for each.
@@ -24,6 +24,9 @@ pub enum Answer {
     Done(u64),
     Refused(Refusal, u32),
 }
+
+// Bit 63: no call has a success as large.
+const MARK: u64 = 9223372036854775808;
 
 // Document 01's number of a refusal.
 pub fn refusal_number(r: Refusal) -> u64
@@ -52,6 +55,16 @@ pub fn number(a: Answer) -> u64
     match a {
         Answer::Done(n) => n,
         Answer::Refused(r, at) => refusal_number(r) * 4294967296 + at as u64,
+    }
+}
+
+// The same for a call whose success can pass 2^32: a refusal has bit 63 set besides.
+pub fn marked_number(a: Answer) -> u64
+    ensures { λ n. ⌜ n ≡ markedNumber a ⌝ }
+{
+    match a {
+        Answer::Done(n) => n,
+        Answer::Refused(r, at) => MARK + (refusal_number(r) * 4294967296 + at as u64),
     }
 }
 

@@ -94,7 +94,7 @@ pub fn write32(p: Pipe32, n: usize, out: &mut [u8])
     ensures { λ _. ⌜ now (out .exit) ≡ lastBytes n (written 4 (pipe32 p)) ++ drop n (now (out .entry)) ⌝ }
 {
     let mut b = [0u8; 32];
-    let v = p.second;
+    let v: [u32; 8] = p.second;
     memory::store_vector32(&mut b, v);
     let from = 32 - n;
     memory::copy_at(out, 0, &b[from..]);
@@ -181,7 +181,7 @@ pub fn write64(p: Pipe64, n: usize, out: &mut [u8])
     ensures { λ _. ⌜ now (out .exit) ≡ lastBytes n (written 8 (pipe64 p)) ++ drop n (now (out .entry)) ⌝ }
 {
     let mut b = [0u8; 64];
-    let v = p.second;
+    let v: [u64; 8] = p.second;
     memory::store_vector64(&mut b, v);
     let from = 64 - n;
     memory::copy_at(out, 0, &b[from..]);

@@ -1,2 +1,3 @@
 pub mod Operation
 pub mod Theorem
+pub mod Fitting

@@ -12,3 +12,4 @@ pub mod Absorb
 pub mod Cases
 pub mod Step
 pub mod OneCall
+pub mod Fitting

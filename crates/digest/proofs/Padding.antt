@@ -8,6 +8,7 @@ use native.Mathlib.Decide.{decLe}
 use native.Mathlib.Omega.{arith}
 use lib.ListN.{length}
 use Rattle.digest.specs.Padding.{gap, ending, Fewest}
+use Rattle.digest.specs.Kind.{narrowKind, wideKind}
 
 -- of the total only what waits matters to the zeros
 gap-mod : (B t : ℕ) → gap B t ≡ gap B (t % B)
@@ -81,3 +82,9 @@ module _ (B : ℕ) (big : 9 ≤ B) (t : ℕ) where
 
   pub fewest : Fewest B t
   fewest = record { ends = gap-ends; fewest = gap-fewest }
+
+pub narrow-fewest : (t : ℕ) → Fewest (narrowKind .block) t
+narrow-fewest = fewest (narrowKind .block) (omega arith)
+
+pub wide-fewest : (t : ℕ) → Fewest (wideKind .block) t
+wide-fewest = fewest (wideKind .block) (omega arith)

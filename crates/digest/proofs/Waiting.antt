@@ -2,11 +2,12 @@
 use mathlib.Core.Path.{_≡_}
 use mathlib.Core.List.{List, _++_}
 use Prim.Native.Nat.{ℕ, _+_, _*_, _/_, _<_}
+use native.Mathlib.Omega.{arith}
 use lib.ListN.{length, drop}
 use Rattle.digest.specs.Blocks.{compressed, rest, filled}
 use Rattle.answer.specs.Refuse.{outcome}
 use Rattle.digest.specs.Refusals.{feeding, finishing}
-use Rattle.digest.specs.Kind.{Kind}
+use Rattle.digest.specs.Kind.{Kind, narrowKind, wideKind}
 use Rattle.digest.specs.State.{Hash, pending, advanced, feedAnswer, closed, cut, finishAnswer, finishOut}
 use Rattle.digest.specs.Waiting.{Alike, Waiting}
 use Rattle.digest.proofs.Feeding.{held, clean, held-opened, clean-opened}
@@ -40,3 +41,9 @@ waiting k pos =
       fedAlike = fed-alike k;
       finishedAlike = finished-alike k;
     }
+
+pub narrow-waiting : Waiting narrowKind
+narrow-waiting = waiting narrowKind (omega arith)
+
+pub wide-waiting : Waiting wideKind
+wide-waiting = waiting wideKind (omega arith)

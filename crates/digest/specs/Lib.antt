@@ -10,3 +10,4 @@ pub mod OneCall
 pub mod Cutting
 pub mod Waiting
 pub mod Form
+pub mod Fitting

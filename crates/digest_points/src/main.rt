@@ -142,7 +142,7 @@ fn hmac(size: u32, block: usize, key: &[u8], message: &[u8], out: &mut [u8])
 }
 
 // A state that no call made: any size and total.
-fn narrow_state(size: u32, total: u64) -> Narrow {
+fn narrow_state(size: u64, total: u64) -> Narrow {
     let pipe = Pipe32 {
         first: [0; 8],
         second: [0; 8],
@@ -233,7 +233,7 @@ fn narrow_cuts(m: &[u8])
 }
 
 // A state that no call made: any size and total.
-fn wide_state(size: u32, total: u64) -> Wide {
+fn wide_state(size: u64, total: u64) -> Wide {
     let pipe = Pipe64 {
         first: [0; 8],
         second: [0; 8],

@@ -1,17 +1,17 @@
-// What C sees. An answer is one 64-bit number: a success's own number, or 2^32 times the refusal number plus the offset. Hashing in pieces, whose
-// successes can be past 2^32, adds 2^63 to a refusal.
+// What C sees. An answer is one 64-bit number: a success's own number, or 2^32 times the refusal number plus the offset. Feeding, whose success can
+// pass 2^32, marks a refusal with bit 63 besides.
 ghost use mathlib.Core.Path.{_≡_};
-ghost use Rattle.answer.specs.Number.{numberOf};
+ghost use Rattle.answer.specs.Number.{numberOf, markedNumber};
+ghost use Rattle.answer.specs.Refuse.{outcome};
 ghost use Rattle.quasigroup.specs.Product.{product};
 ghost use Rattle.quasigroup.specs.Division.{leftDivision, rightDivision};
 ghost use Rattle.buffer.specs.Operation.{answerFor, outputAfter};
 ghost use Rattle.digest.specs.Kind.{narrowKind, wideKind};
-ghost use Rattle.digest.specs.State.{finishAnswer, finishOut};
+ghost use Rattle.digest.specs.State.{openAnswer, opened, finishAnswer, finishOut};
 ghost use Rattle.digest.specs.OneCall.{oneCallAnswer, oneCallOut};
 ghost use Rattle.sheet.specs.Run.{Forward, Backward, runAnswer, runBytes};
-ghost use Rattle.narrow.specs.Outcomes.{hashOf as ofNarrow, opened as openedNarrow, fed as fedNarrow};
-ghost use Rattle.wide.specs.Outcomes.{hashOf as ofWide, opened as openedWide, fed as fedWide};
-ghost use Rattle.pieces.specs.Number.{hashNumber};
+ghost use Rattle.narrow.specs.Outcomes.{narrowOf, hashOf as ofNarrow, fed as fedNarrow};
+ghost use Rattle.wide.specs.Outcomes.{wideOf, hashOf as ofWide, fed as fedWide};
 use narrow::Narrow;
 use wide::Wide;
 
@@ -69,12 +69,13 @@ pub extern "C" fn edonr_run_backward(width: u32, vectors: &mut [u8], sheet: &[u8
     answer::number(run::run_backward(width, vectors, sheet))
 }
 
-// A narrow hash of `size` bits is opened in `hash`, whatever stood there.
+// A narrow hash of `size` bits is opened in `hash`, whatever stood there; a refusal leaves what stood there.
 #[no_mangle]
 pub extern "C" fn edonr_narrow_open(hash: &mut Narrow, size: u32) -> u64
-    ensures { λ r. ⌜ (r ≡ hashNumber (openedNarrow size .answer)) × (now (hash .exit) ≡ openedNarrow size .state) ⌝ }
+    ensures { λ r. ⌜ (r ≡ numberOf (openAnswer narrowKind size))
+        × (now (hash .exit) ≡ outcome (openAnswer narrowKind size) (narrowOf (opened narrowKind size)) (now (hash .entry))) ⌝ }
 {
-    let r = pieces::narrow_open(size);
+    let r = pieces::narrow_open(*hash, size);
     *hash = r.state;
     r.number
 }
@@ -82,7 +83,7 @@ pub extern "C" fn edonr_narrow_open(hash: &mut Narrow, size: u32) -> u64
 // `hash` takes `bytes`.
 #[no_mangle]
 pub extern "C" fn edonr_narrow_feed(hash: &mut Narrow, bytes: &[u8]) -> u64
-    ensures { λ r. ⌜ (r ≡ hashNumber (fedNarrow (now (hash .entry)) (now (bytes .entry)) .answer))
+    ensures { λ r. ⌜ (r ≡ markedNumber (fedNarrow (now (hash .entry)) (now (bytes .entry)) .answer))
         × (now (hash .exit) ≡ fedNarrow (now (hash .entry)) (now (bytes .entry)) .state) ⌝ }
 {
     let r = pieces::narrow_feed(*hash, bytes);
@@ -93,18 +94,19 @@ pub extern "C" fn edonr_narrow_feed(hash: &mut Narrow, bytes: &[u8]) -> u64
 // The digest of what `hash` was fed, to the start of `out`; `hash` may be fed further.
 #[no_mangle]
 pub extern "C" fn edonr_narrow_finish(hash: &Narrow, out: &mut [u8]) -> u64
-    ensures { λ r. ⌜ (r ≡ hashNumber (finishAnswer narrowKind (ofNarrow (now (hash .entry))) (now (out .entry))))
+    ensures { λ r. ⌜ (r ≡ numberOf (finishAnswer narrowKind (ofNarrow (now (hash .entry))) (now (out .entry))))
         × (now (out .exit) ≡ finishOut narrowKind (ofNarrow (now (hash .entry))) (now (out .entry))) ⌝ }
 {
     pieces::narrow_finish(*hash, out)
 }
 
-// A wide hash of `size` bits is opened in `hash`, whatever stood there.
+// A wide hash of `size` bits is opened in `hash`, whatever stood there; a refusal leaves what stood there.
 #[no_mangle]
 pub extern "C" fn edonr_wide_open(hash: &mut Wide, size: u32) -> u64
-    ensures { λ r. ⌜ (r ≡ hashNumber (openedWide size .answer)) × (now (hash .exit) ≡ openedWide size .state) ⌝ }
+    ensures { λ r. ⌜ (r ≡ numberOf (openAnswer wideKind size))
+        × (now (hash .exit) ≡ outcome (openAnswer wideKind size) (wideOf (opened wideKind size)) (now (hash .entry))) ⌝ }
 {
-    let r = pieces::wide_open(size);
+    let r = pieces::wide_open(*hash, size);
     *hash = r.state;
     r.number
 }
@@ -112,7 +114,7 @@ pub extern "C" fn edonr_wide_open(hash: &mut Wide, size: u32) -> u64
 // `hash` takes `bytes`.
 #[no_mangle]
 pub extern "C" fn edonr_wide_feed(hash: &mut Wide, bytes: &[u8]) -> u64
-    ensures { λ r. ⌜ (r ≡ hashNumber (fedWide (now (hash .entry)) (now (bytes .entry)) .answer))
+    ensures { λ r. ⌜ (r ≡ markedNumber (fedWide (now (hash .entry)) (now (bytes .entry)) .answer))
         × (now (hash .exit) ≡ fedWide (now (hash .entry)) (now (bytes .entry)) .state) ⌝ }
 {
     let r = pieces::wide_feed(*hash, bytes);
@@ -123,7 +125,7 @@ pub extern "C" fn edonr_wide_feed(hash: &mut Wide, bytes: &[u8]) -> u64
 // The digest of what `hash` was fed, to the start of `out`; `hash` may be fed further.
 #[no_mangle]
 pub extern "C" fn edonr_wide_finish(hash: &Wide, out: &mut [u8]) -> u64
-    ensures { λ r. ⌜ (r ≡ hashNumber (finishAnswer wideKind (ofWide (now (hash .entry))) (now (out .entry))))
+    ensures { λ r. ⌜ (r ≡ numberOf (finishAnswer wideKind (ofWide (now (hash .entry))) (now (out .entry))))
         × (now (out .exit) ≡ finishOut wideKind (ofWide (now (hash .entry))) (now (out .entry))) ⌝ }
 {
     pieces::wide_finish(*hash, out)

@@ -160,15 +160,15 @@ fn push_lines(width: u32, sheet: &[u8], out: &mut [u8]) -> usize
     }
 }
 
-// The last line of a listing.
-fn push_end(out: &mut [u8], at: usize, length: usize, count: usize) -> usize
+// The last line of a listing: `size` is the sheet's length in bytes, `count` the number of its commands.
+fn push_end(out: &mut [u8], at: usize, size: usize, count: usize) -> usize
     requires { ⌜ at < 700000 ⌝ }
-    ensures { λ r. ⌜ Pushed (now (out .entry)) at (endLine length count) (now (out .exit)) r ⌝ }
+    ensures { λ r. ⌜ Pushed (now (out .entry)) at (endLine size count) (now (out .exit)) r ⌝ }
     ensures { λ r. ⌜ r ≤ at + 64 ⌝ }
 {
     let text = [b'e', b'n', b'd'];
     let first = push_text(out, at, &text);
-    let second = push_spaced(out, first, length);
+    let second = push_spaced(out, first, size);
     let third = push_spaced(out, second, count);
     push(out, third, 10)
 }

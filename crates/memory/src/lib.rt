@@ -1,7 +1,7 @@
 // Lent bytes: little-endian words and vectors of eight words in them, and copies.
 ghost use mathlib.Core.Path.{_≡_};
 ghost use mathlib.Core.List.{_++_};
-ghost use Prim.Native.Nat.{ℕ, _+_, _-_, _*_, _/_, _%_, _^_, _<_, _≤_};
+ghost use Prim.Native.Nat.{_+_, _<_, _≤_};
 ghost use lib.ListN.{length, drop, take};
 ghost use lib.Seq.{sets};
 ghost use Rattle.memory.specs.Bytes.{wordAt, wordsAt, bytes, bytesOf};
@@ -41,18 +41,18 @@ pub fn load_vector32(s: &[u8]) -> [u32; 8]
     ]
 }
 
-// The four bytes of `x` at `at`, lowest byte first.
-pub fn store32(out: &mut [u8], at: usize, x: u32)
+// The four bytes of `word32` at `at`, lowest byte first.
+pub fn store32(out: &mut [u8], at: usize, word32: u32)
     requires { ⌜ at + 4 ≤ length (now out) ⌝ }
-    ensures { λ _. ⌜ now (out .exit) ≡ sets (now (out .entry)) at (bytes 4 x) ⌝ }
+    ensures { λ _. ⌜ now (out .exit) ≡ sets (now (out .entry)) at (bytes 4 word32) ⌝ }
 {
     let b = at + 1;
     let c = b + 1;
     let d = c + 1;
-    out[at] = (x % 256) as u8;
-    out[b] = (x / 256 % 256) as u8;
-    out[c] = (x / 256 / 256 % 256) as u8;
-    out[d] = (x / 256 / 256 / 256 % 256) as u8;
+    out[at] = (word32 % 256) as u8;
+    out[b] = (word32 / 256 % 256) as u8;
+    out[c] = (word32 / 256 / 256 % 256) as u8;
+    out[d] = (word32 / 256 / 256 / 256 % 256) as u8;
 }
 
 // The eight words of `v`, four bytes each, at the start of `out`; the rest of `out` stays.
@@ -116,10 +116,10 @@ pub fn load_vector64(s: &[u8]) -> [u64; 8]
     ]
 }
 
-// The eight bytes of `x` at `at`, lowest byte first.
-pub fn store64(out: &mut [u8], at: usize, x: u64)
+// The eight bytes of `word64` at `at`, lowest byte first.
+pub fn store64(out: &mut [u8], at: usize, word64: u64)
     requires { ⌜ at + 8 ≤ length (now out) ⌝ }
-    ensures { λ _. ⌜ now (out .exit) ≡ sets (now (out .entry)) at (bytes 8 x) ⌝ }
+    ensures { λ _. ⌜ now (out .exit) ≡ sets (now (out .entry)) at (bytes 8 word64) ⌝ }
 {
     let b = at + 1;
     let c = b + 1;
@@ -128,14 +128,14 @@ pub fn store64(out: &mut [u8], at: usize, x: u64)
     let f = e + 1;
     let g = f + 1;
     let h = g + 1;
-    out[at] = (x % 256) as u8;
-    out[b] = (x / 256 % 256) as u8;
-    out[c] = (x / 256 / 256 % 256) as u8;
-    out[d] = (x / 256 / 256 / 256 % 256) as u8;
-    out[e] = (x / 256 / 256 / 256 / 256 % 256) as u8;
-    out[f] = (x / 256 / 256 / 256 / 256 / 256 % 256) as u8;
-    out[g] = (x / 256 / 256 / 256 / 256 / 256 / 256 % 256) as u8;
-    out[h] = (x / 256 / 256 / 256 / 256 / 256 / 256 / 256 % 256) as u8;
+    out[at] = (word64 % 256) as u8;
+    out[b] = (word64 / 256 % 256) as u8;
+    out[c] = (word64 / 256 / 256 % 256) as u8;
+    out[d] = (word64 / 256 / 256 / 256 % 256) as u8;
+    out[e] = (word64 / 256 / 256 / 256 / 256 % 256) as u8;
+    out[f] = (word64 / 256 / 256 / 256 / 256 / 256 % 256) as u8;
+    out[g] = (word64 / 256 / 256 / 256 / 256 / 256 / 256 % 256) as u8;
+    out[h] = (word64 / 256 / 256 / 256 / 256 / 256 / 256 / 256 % 256) as u8;
 }
 
 // The eight words of `v`, eight bytes each, at the start of `out`; the rest of `out` stays.

@@ -8,7 +8,7 @@ pub fn digest(size: u32, message: &[u8], out: &mut [u8]) -> Answer
     ensures { λ r. ⌜ r ≡ oneCallAnswer size (now (message .entry)) (now (out .entry)) ⌝ }
     ensures { λ r. ⌜ now (out .exit) ≡ oneCallOut size (now (message .entry)) (now (out .entry)) ⌝ }
 {
-    if refusal::is_size(384, 512, size) {
+    if refusal::is_size(384, 512, size as u64) {
         return wide::digest(size, message, out);
     }
     narrow::digest(size, message, out)

@@ -1,3 +1,1 @@
-pub mod Number
 pub mod Piece
-pub mod Told

@@ -1,10 +1,10 @@
 -- Document 01, "Reference points": the points with a star, each shown of the definitions, together as one fact.
 use mathlib.Core.Path.{_≡_, refl}
 use mathlib.Core.List.{List, [], _∷_, _++_}
-use Prim.Native.Nat.{ℕ, _*_}
+use Prim.Native.Nat.{ℕ, _+_, _*_, _/_, _^_}
 use lib.ListN.{length, replicate}
-use Rattle.answer.specs.declared.Answer.the-variants.{Done, Refused}
-use Rattle.answer.specs.declared.Refusal.the-variants.{Opcode, Truncated, Place, SamePlace}
+use Rattle.answer.specs.declared.Answer.the-variants.{Done}
+use Rattle.answer.specs.Number.{numberOf}
 use Rattle.memory.specs.Bytes.{wordAt, bytesOf}
 use Rattle.word.specs.Word.{rotl}
 use Rattle.digest.specs.Padding.{padded}
@@ -16,9 +16,25 @@ use Rattle.sheet.specs.Run.{Forward, runPlan, runAnswer, runBytes}
 abbrev oneToEight : List ℕ
 oneToEight = 1 ∷ 2 ∷ 3 ∷ 4 ∷ 5 ∷ 6 ∷ 7 ∷ 8 ∷ []
 
--- the vectors of width 32 in lent bytes: V0 given, the others zero
-abbrev lent : List ℕ → List ℕ
-lent v = bytesOf 4 (v ++ replicate 24 0)
+-- the four vectors of width w in lent bytes: V0 given, the others zero
+abbrev lent : ℕ → List ℕ → List ℕ
+lent w v = bytesOf (w / 8) (v ++ replicate 24 0)
+
+-- of sheets, at width w. A refusal is said by document 01's number: 2^32 times the refusal number plus the offset.
+pub record SheetPoints (w : ℕ) : Type 0 where
+  -- the empty sheet: success, 0
+  pub empty : runAnswer w [] (lent w oneToEight) ≡ Done 0
+  -- 06 00 on V0 = 1, 2, .., 8 gives 8, 7, .., 1
+  pub flip : runBytes Forward w (6 ∷ 0 ∷ []) (lent w oneToEight) ≡ lent w (8 ∷ 7 ∷ 6 ∷ 5 ∷ 4 ∷ 3 ∷ 2 ∷ 1 ∷ [])
+  -- 05 01 01 is 11 at 0
+  pub same-place : numberOf (runAnswer w (5 ∷ 1 ∷ 1 ∷ []) (lent w oneToEight)) ≡ 11 * 2 ^ 32 + 0
+  -- 01 04 04 is 10 at 0
+  pub place : numberOf (runAnswer w (1 ∷ 4 ∷ 4 ∷ []) (lent w oneToEight)) ≡ 10 * 2 ^ 32 + 0
+  -- 01 04 is 9 at 0
+  pub truncated : numberOf (runAnswer w (1 ∷ 4 ∷ []) (lent w oneToEight)) ≡ 9 * 2 ^ 32 + 0
+  -- 06 00 09 is 8 at 2, V0 unflipped
+  pub opcode : numberOf (runAnswer w (6 ∷ 0 ∷ 9 ∷ []) (lent w oneToEight)) ≡ 8 * 2 ^ 32 + 2
+  pub unflipped : runBytes Forward w (6 ∷ 0 ∷ 9 ∷ []) (lent w oneToEight) ≡ lent w oneToEight
 
 pub record Points : Type 0 where
   -- bytes 23 FE 03 A1 are the word 0xA103FE23
@@ -35,17 +51,9 @@ pub record Points : Type 0 where
   -- wide, 119 fill one, 120 need two
   pub wide-119 : length (padded (wideKind .block) (replicate 119 0)) ≡ wideKind .block
   pub wide-120 : length (padded (wideKind .block) (replicate 120 0)) ≡ 2 * wideKind .block
-  -- the empty sheet: success, 0
-  pub sheet-empty : runAnswer 32 [] (lent oneToEight) ≡ Done 0
-  -- 06 00 on V0 = 1, 2, .., 8 gives 8, 7, .., 1
-  pub sheet-flip : runBytes Forward 32 (6 ∷ 0 ∷ []) (lent oneToEight) ≡ lent (8 ∷ 7 ∷ 6 ∷ 5 ∷ 4 ∷ 3 ∷ 2 ∷ 1 ∷ [])
-  -- 05 01 01 is 11 at 0, 01 04 04 is 10 at 0, 01 04 is 9 at 0
-  pub sheet-same-place : runAnswer 32 (5 ∷ 1 ∷ 1 ∷ []) (lent oneToEight) ≡ Refused SamePlace 0
-  pub sheet-place : runAnswer 32 (1 ∷ 4 ∷ 4 ∷ []) (lent oneToEight) ≡ Refused Place 0
-  pub sheet-truncated : runAnswer 32 (1 ∷ 4 ∷ []) (lent oneToEight) ≡ Refused Truncated 0
-  -- 06 00 09 is 8 at 2, V0 unflipped
-  pub sheet-opcode : runAnswer 32 (6 ∷ 0 ∷ 9 ∷ []) (lent oneToEight) ≡ Refused Opcode 2
-  pub sheet-unflipped : runBytes Forward 32 (6 ∷ 0 ∷ 9 ∷ []) (lent oneToEight) ≡ lent oneToEight
+  -- the points of sheets, at both widths
+  pub sheets-32 : SheetPoints 32
+  pub sheets-64 : SheetPoints 64
 
 pub points : Points
 unfolding rotl runPlan planOf readAt
@@ -59,11 +67,24 @@ points =
       narrow-56 = refl;
       wide-119 = refl;
       wide-120 = refl;
-      sheet-empty = refl;
-      sheet-flip = refl;
-      sheet-same-place = refl;
-      sheet-place = refl;
-      sheet-truncated = refl;
-      sheet-opcode = refl;
-      sheet-unflipped = refl;
+      sheets-32 =
+          record {
+            empty = refl;
+            flip = refl;
+            same-place = refl;
+            place = refl;
+            truncated = refl;
+            opcode = refl;
+            unflipped = refl;
+          };
+      sheets-64 =
+          record {
+            empty = refl;
+            flip = refl;
+            same-place = refl;
+            place = refl;
+            truncated = refl;
+            opcode = refl;
+            unflipped = refl;
+          };
     }

@@ -1,14 +1,13 @@
--- The quasigroup theorem, for every width: there is one solution, and the divisions return it.
+-- The quasigroup theorem, for every admissible width: there is one solution, and the divisions return it.
 use mathlib.Core.Path.{_≡_, refl, sym, ap, ap₂, _∙_}
-use Prim.Native.Nat.{ℕ, suc, _<_}
+use Prim.Native.Nat.{ℕ}
 use native.Mathlib.Omega.{arith}
 use mathlib.Core.List.{List}
-use lib.ListN.{length}
 use Rattle.quasigroup.specs.Tables.{Width, leftSums, rightSums, narrow, wide}
 use Rattle.quasigroup.specs.Product.{leftHalf, rightHalf, joined, product}
 use Rattle.quasigroup.specs.Division.{leftUnxors, rightUnxors, leftInverse, rightInverse, separated, unleft, unright, leftDivision, rightDivision}
-use Rattle.quasigroup.specs.Vector.{Below, Vector}
-use Rattle.quasigroup.specs.Theorem.{OnlySolution, Quasigroup}
+use Rattle.quasigroup.specs.Vector.{Vector}
+use Rattle.quasigroup.specs.Theorem.{OnlySolution, Quasigroup, Admissible, EveryWidth}
 use Rattle.quasigroup.proofs.Modulo.{below-test}
 use Rattle.quasigroup.proofs.Vectors.{Undo, then, undo-on}
 use Rattle.quasigroup.proofs.Half.{Tables, half-undo, joined-comm, joined-undo}
@@ -34,14 +33,6 @@ right-tables =
 only : {w : ℕ} {f g : List ℕ → List ℕ} → Undo w f g → (b : List ℕ) → Vector w b → OnlySolution w f b (g b)
 only {g = g} u b h = record { vector = u .back b h; solves = u .right b h; unique = λ z k e. sym (u .left z k) ∙ ap g e }
 
--- a width that the theorem holds for: at least one bit, and eight amounts a half, none above the width
-pub record Fits (s : Width) : Type 0 where
-  pub some : 0 < s .bits
-  pub left-eight : length (s .leftAmounts) ≡ 8
-  pub right-eight : length (s .rightAmounts) ≡ 8
-  pub left-within : Below (suc (s .bits)) (s .leftAmounts)
-  pub right-within : Below (suc (s .bits)) (s .rightAmounts)
-
 -- a product from its halves
 pub from-halves : (s : Width) (x y : List ℕ) {l r z : List ℕ} → l ≡ leftHalf s x → r ≡ rightHalf s y → z ≡ joined (s .bits) l r → z ≡ product s x y
 unfolding product
@@ -56,7 +47,7 @@ pub right-from-halves : (s : Width) (b a : List ℕ) {h z x : List ℕ} → h �
 unfolding rightDivision
 right-from-halves s b a e f g = g ∙ ap (unleft s) (f ∙ ap (separated (s .bits) b) e)
 
-module _ (s : Width) (h : Fits s) where
+module _ (s : Width) (h : Admissible s) where
   left-undo : Undo (s .bits) (leftHalf s) (unleft s)
   unfolding leftHalf unleft
   left-undo = half-undo (s .bits) (h .some) (s .leftConstant) (s .leftAmounts) (h .left-eight) (h .left-within) leftSums leftUnxors leftInverse left-tables
@@ -77,22 +68,22 @@ module _ (s : Width) (h : Fits s) where
   unfolding product rightDivision
   by-right a b = then left-undo (joined-undo (s .bits) (rightHalf s a) (right-undo .there a b))
 
-  pub quasigroup : Quasigroup s
-  quasigroup =
-      record {
-        closed = λ x y hx hy. by-left x hx .there y hy;
-        left = λ a b ha hb. only (by-left a ha) b hb;
-        right = λ a b ha hb. only (by-right a ha) b hb;
-      }
+pub quasigroup : EveryWidth
+quasigroup s h =
+    record {
+      closed = λ x y hx hy. by-left s h x hx .there y hy;
+      left = λ a b ha hb. only (by-left s h a ha) b hb;
+      right = λ a b ha hb. only (by-right s h a ha) b hb;
+    }
 
-pub narrow-fits : Fits narrow
-narrow-fits = record { some = omega arith; left-eight = refl; right-eight = refl; left-within = below-test _ _ tt; right-within = below-test _ _ tt }
+pub narrow-admissible : Admissible narrow
+narrow-admissible = record { some = omega arith; left-eight = refl; right-eight = refl; left-within = below-test _ _ tt; right-within = below-test _ _ tt }
 
-pub wide-fits : Fits wide
-wide-fits = record { some = omega arith; left-eight = refl; right-eight = refl; left-within = below-test _ _ tt; right-within = below-test _ _ tt }
+pub wide-admissible : Admissible wide
+wide-admissible = record { some = omega arith; left-eight = refl; right-eight = refl; left-within = below-test _ _ tt; right-within = below-test _ _ tt }
 
 pub narrow-quasigroup : Quasigroup narrow
-narrow-quasigroup = quasigroup narrow narrow-fits
+narrow-quasigroup = quasigroup narrow narrow-admissible
 
 pub wide-quasigroup : Quasigroup wide
-wide-quasigroup = quasigroup wide wide-fits
+wide-quasigroup = quasigroup wide wide-admissible

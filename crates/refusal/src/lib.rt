@@ -7,7 +7,7 @@ use answer::Refusal;
 // The largest total of bytes.
 const LIMIT: u64 = 2305843009213693951;
 
-pub fn is_size(small: u32, large: u32, size: u32) -> bool
+pub fn is_size(small: u64, large: u64, size: u64) -> bool
     ensures { λ r. ⌜ r ≡ isSize small large size ⌝ }
 {
     if size == small {
@@ -16,7 +16,7 @@ pub fn is_size(small: u32, large: u32, size: u32) -> bool
     size == large
 }
 
-fn in_form(small: u32, large: u32, size: u32, total: u64) -> bool
+fn in_form(small: u64, large: u64, size: u64, total: u64) -> bool
     ensures { λ r. ⌜ r ≡ inForm small large size total ⌝ }
 {
     if is_size(small, large, size) {
@@ -25,7 +25,7 @@ fn in_form(small: u32, large: u32, size: u32, total: u64) -> bool
     false
 }
 
-pub fn opening(small: u32, large: u32, size: u32) -> Answer
+pub fn opening(small: u64, large: u64, size: u64) -> Answer
     ensures { λ r. ⌜ r ≡ opening small large size ⌝ }
 {
     if !is_size(small, large, size) {
@@ -34,7 +34,7 @@ pub fn opening(small: u32, large: u32, size: u32) -> Answer
     Answer::Done(0)
 }
 
-pub fn feeding(small: u32, large: u32, size: u32, total: u64, len: usize) -> Answer
+pub fn feeding(small: u64, large: u64, size: u64, total: u64, len: usize) -> Answer
     ensures { λ r. ⌜ r ≡ feeding small large size total len ⌝ }
 {
     if !in_form(small, large, size, total) {
@@ -47,16 +47,16 @@ pub fn feeding(small: u32, large: u32, size: u32, total: u64, len: usize) -> Ans
     Answer::Done(total + more)
 }
 
-fn delivering(size: u32, room: usize) -> Answer
+fn delivering(size: u64, room: usize) -> Answer
     ensures { λ r. ⌜ r ≡ delivering size room ⌝ }
 {
     if room < (size / 8) as usize {
         return Answer::Refused(Refusal::Output, 0);
     }
-    Answer::Done((size / 8) as u64)
+    Answer::Done(size / 8)
 }
 
-pub fn finishing(small: u32, large: u32, size: u32, total: u64, room: usize) -> Answer
+pub fn finishing(small: u64, large: u64, size: u64, total: u64, room: usize) -> Answer
     ensures { λ r. ⌜ r ≡ finishing small large size total room ⌝ }
 {
     if !in_form(small, large, size, total) {
@@ -65,7 +65,7 @@ pub fn finishing(small: u32, large: u32, size: u32, total: u64, room: usize) -> 
     delivering(size, room)
 }
 
-pub fn digesting(small: u32, large: u32, size: u32, len: usize, room: usize) -> Answer
+pub fn digesting(small: u64, large: u64, size: u64, len: usize, room: usize) -> Answer
     ensures { λ r. ⌜ r ≡ digesting small large size len room ⌝ }
 {
     if !is_size(small, large, size) {

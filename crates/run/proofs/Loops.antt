@@ -2,7 +2,7 @@
 use mathlib.Core.Path.{_≡_, ap, sym, _∙_}
 use mathlib.Core.Bool.{true}
 use mathlib.Core.List.{List, [], _∷_, reverse, reverse-append}
-use Prim.Native.Nat.{ℕ, suc, _-_, _≤_, _<_}
+use Prim.Native.Nat.{ℕ, suc, _≤_, _<_}
 use native.Mathlib.Omega.{arith}
 use borrow.Author.Tests.{eqb-true, ne-eqb}
 use lib.ListN.{length, getD, take}
@@ -35,13 +35,11 @@ module _ (w : ℕ) (s : List ℕ) (i : ℕ) (v : List (List ℕ)) {end : List (L
     pub forward-end : readAt w s i ≡ End → v ≡ end
     forward-end e = rw (rest-end w s i e) at now
 
-  -- with i offsets left
-  pub backward-more : (l : List ℕ) → 0 < i → i ≤ length l → steps Backward w s (reverse (take i l)) v ≡ end → {u : List (List ℕ)}
-      → u ≡ step Backward w s (getD l (i - 1) 0) v → steps Backward w s (reverse (take (i - 1) l)) u ≡ end
-  backward-more l h k now e =
-      let j = i - 1 in
+  -- with i offsets left, of which j is the last
+  pub backward-more : (l : List ℕ) (j : ℕ) → i ≡ suc j → i ≤ length l → steps Backward w s (reverse (take i l)) v ≡ end → {u : List (List ℕ)}
+      → u ≡ step Backward w s (getD l j 0) v → steps Backward w s (reverse (take j l)) u ≡ end
+  backward-more l j b k now e =
       let x = getD l j 0 in
-      let b : i ≡ suc j = omega arith in
       let r : j < length l = omega arith in
       let t : reverse (take i l) ≡ x ∷ reverse (take j l) =
       ap (λ (m : ℕ). reverse (take m l)) b ∙ ap (λ (m : List ℕ). reverse m) (take-suc l j 0 r) ∙ reverse-append (take j l) (x ∷ []) in

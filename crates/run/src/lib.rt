@@ -81,10 +81,11 @@ fn backward(width: u32, sheet: &[u8], offsets: &[u16], n: usize, vectors: &mut [
     requires { ⌜ (known width ≡ true) × (length (now vectors) ≡ placeCount * width) × (n ≤ length (now offsets)) ⌝ }
     ensures { λ _. ⌜ vectorsIn width (now (vectors .exit)) ≡ steps Backward width (now (sheet .entry)) (reverse (take n (now (offsets .entry)))) (vectorsIn width (now (vectors .entry))) ⌝ }
 {
-    let mut i = n;
-    while 0 < i {
-        i -= 1;
-        undo(width, sheet, wide16(offsets[i]), vectors);
+    let mut done = 0;
+    while done < n {
+        let last = n - 1 - done;
+        undo(width, sheet, wide16(offsets[last]), vectors);
+        done += 1;
     }
 }
 

@@ -8,7 +8,7 @@ use lib.Dec.{eqb}
 use lib.ListN.{length}
 use Rattle.answer.specs.declared.Answer.{Answer}
 use Rattle.quasigroup.specs.Tables.{narrow, wide, known}
-use Rattle.quasigroup.proofs.Quasigroup.{by-left, by-right, narrow-fits, wide-fits}
+use Rattle.quasigroup.proofs.Quasigroup.{by-left, by-right, narrow-admissible, wide-admissible}
 use Rattle.sheet.specs.Read.{placeCount}
 use Rattle.sheet.specs.Sheet.{Outcome, Sound, Faulty, Plan, planOf}
 use Rattle.sheet.specs.Run.{Direction, other, order, steps, vectorsIn, vectorBytes, runPlan, answered, moved}
@@ -20,10 +20,10 @@ use Rattle.sheet.proofs.Undoing.{Lawful, steps-state, there-and-back}
 -- ---- the two widths
 
 pub lawful-32 : Lawful 32
-lawful-32 = record { bytewise = record { power = refl; eight = refl }; left = by-left narrow narrow-fits; right = by-right narrow narrow-fits }
+lawful-32 = record { bytewise = record { power = refl; eight = refl }; left = by-left narrow narrow-admissible; right = by-right narrow narrow-admissible }
 
 pub lawful-64 : Lawful 64
-lawful-64 = record { bytewise = record { power = refl; eight = refl }; left = by-left wide wide-fits; right = by-right wide wide-fits }
+lawful-64 = record { bytewise = record { power = refl; eight = refl }; left = by-left wide wide-admissible; right = by-right wide wide-admissible }
 
 either : (a b : Bool) (P : Type 0) → a || b ≡ true → (a ≡ true → P) → (b ≡ true → P) → P
 either true b P e f g = f refl

@@ -2,7 +2,9 @@ pub mod Sound
 pub mod Cases
 pub mod Scanning
 pub mod Rest
+pub mod Enough
 pub mod Lent
 pub mod Undoing
 pub mod Home
+pub mod Fitting
 pub mod Ran

@@ -23,7 +23,7 @@ module _ (w : ℕ) (s : List ℕ) where
   continued (Fault r) i F G h k = refl
   continued End i F G h k = refl
 
-  enough : (f g i : ℕ) → length s - i ≤ f → length s - i ≤ g → scanFrom f w s i ≡ scanFrom g w s i
+  pub enough : (f g i : ℕ) → length s - i ≤ f → length s - i ≤ g → scanFrom f w s i ≡ scanFrom g w s i
   enough zero g i h k = sym (scan-end w s g i (sym (ended w s i (omega arith))))
   enough (suc f) zero i h k = scan-end w s (suc f) i (sym (ended w s i (omega arith)))
   enough (suc f) (suc g) i h k = continued (readAt w s i) i (scanFrom f w s) (scanFrom g w s) (read-sound w s i) (λ n on. enough f g n (omega arith) (omega arith))
@@ -59,7 +59,7 @@ module _ (w : ℕ) (s : List ℕ) where
   counted-with (Fault r) i F e k = refl
   counted-with End i F e k = refl
 
-  counted : (f i : ℕ) → totalWork w s (scanFrom f w s i .offsets) ≡ length (scanFrom f w s i .offsets)
+  pub counted : (f i : ℕ) → totalWork w s (scanFrom f w s i .offsets) ≡ length (scanFrom f w s i .offsets)
   counted zero i = refl
   counted (suc f) i = counted-with (readAt w s i) i (scanFrom f w s) refl (counted f)
 

@@ -1,7 +1,9 @@
 pub mod Read
 pub mod Sheet
+pub mod Enough
 pub mod Effect
 pub mod Work
 pub mod Run
 pub mod Home
+pub mod Fitting
 pub mod Sound

@@ -32,7 +32,8 @@ continue (Got c n) i rest = behind i (rest n)
 continue (Fault r) i rest = refused r i
 continue End i rest = record { offsets = []; outcome = Sound }
 
--- at most f commands from offset i on; each takes a byte at least, so f = length s is enough
+-- the plan from offset i on, in at most f steps. A command takes at least two bytes, so `length s` steps are enough, and a scan of as many never ends
+-- for lack of them: the law is `StepsEnough`, in Enough.antt.
 abbrev pub scanFrom : ℕ → ℕ → List ℕ → ℕ → Plan
 scanFrom zero w s i = record { offsets = []; outcome = Sound }
 scanFrom (suc f) w s i = continue (readAt w s i) i (scanFrom f w s)

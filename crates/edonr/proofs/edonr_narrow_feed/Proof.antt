@@ -2,8 +2,7 @@
 use contract.Running.{givenOf, tables, tablesOf}
 use denote.Triple.Spec.{tripleOf}
 use denote.Triple.Table.{entered, cited}
-use Rattle.narrow.specs.Outcomes.{fed}
-use Rattle.pieces.specs.Piece.{narrowPiece}
+use Rattle.pieces.specs.Piece.{narrowFed}
 use Rattle.walk.proofs.Thin as thin
 use Rattle.edonr.proofs.HashTypes.{narrow-types}
 use Rattle.pieces.proofs.narrow_feed.Symbol as value-def
@@ -19,5 +18,5 @@ unfolding code.routine tablesOf
 edonr-narrow-feed-spec 𝓤 H 𝓜 𝓖 𝓡 =
     entered 𝓤 H (tripleOf 𝓤 H (𝓖 .A) f.signature (f.spec 𝓤 H (𝓖 .A) (𝓜 .mem) (𝓡 .run)))
     (tables 𝓤 H 𝓜 𝓡 code.env .C) (tables 𝓤 H 𝓜 𝓡 code.env .Λ) #f code.function (code.unfolded 𝓤 H 𝓜 𝓡)
-    (thin.meets narrow-types (λ h s. narrowPiece (fed h s)) 𝓤 H (𝓖 .A) (givenOf 𝓤 H 𝓜 𝓖) #value (tablesOf 𝓤 H 𝓜 (tables 𝓤 H 𝓜 𝓡 code.env))
-    (cited 𝓤 H (thin.Value narrow-types (λ h s. narrowPiece (fed h s)) 𝓤 H (𝓖 .A)) 𝓜 𝓡 code.env #value value-def.routine code.calls-pieces·narrow-feed (value-thm.met 𝓤 H 𝓜 𝓖 𝓡)))
+    (thin.meets narrow-types narrowFed 𝓤 H (𝓖 .A) (givenOf 𝓤 H 𝓜 𝓖) #value (tablesOf 𝓤 H 𝓜 (tables 𝓤 H 𝓜 𝓡 code.env))
+    (cited 𝓤 H (thin.Value narrow-types narrowFed 𝓤 H (𝓖 .A)) 𝓜 𝓡 code.env #value value-def.routine code.calls-pieces·narrow-feed (value-thm.met 𝓤 H 𝓜 𝓖 𝓡)))

@@ -5,7 +5,7 @@ use denote.Triple.Table.{entered, cited}
 use Rattle.digest.specs.Kind.{narrowKind}
 use Rattle.digest.specs.State.{finishAnswer, finishOut}
 use Rattle.narrow.specs.Outcomes.{hashOf}
-use Rattle.pieces.specs.Number.{hashNumber}
+use Rattle.answer.specs.Number.{numberOf}
 use Rattle.walk.proofs.Finishing as finishing
 use Rattle.edonr.proofs.HashTypes.{narrow-types}
 use Rattle.pieces.proofs.narrow_finish.Symbol as value-def
@@ -21,5 +21,5 @@ unfolding code.routine tablesOf
 edonr-narrow-finish-spec 𝓤 H 𝓜 𝓖 𝓡 =
     entered 𝓤 H (tripleOf 𝓤 H (𝓖 .A) f.signature (f.spec 𝓤 H (𝓖 .A) (𝓜 .mem) (𝓡 .run)))
     (tables 𝓤 H 𝓜 𝓡 code.env .C) (tables 𝓤 H 𝓜 𝓡 code.env .Λ) #f code.function (code.unfolded 𝓤 H 𝓜 𝓡)
-    (finishing.meets narrow-types (λ h s. hashNumber (finishAnswer narrowKind (hashOf h) s)) (λ h s. finishOut narrowKind (hashOf h) s) 𝓤 H (𝓖 .A) (givenOf 𝓤 H 𝓜 𝓖) #value (tablesOf 𝓤 H 𝓜 (tables 𝓤 H 𝓜 𝓡 code.env))
-    (cited 𝓤 H (finishing.Value narrow-types (λ h s. hashNumber (finishAnswer narrowKind (hashOf h) s)) (λ h s. finishOut narrowKind (hashOf h) s) 𝓤 H (𝓖 .A)) 𝓜 𝓡 code.env #value value-def.routine code.calls-pieces·narrow-finish (value-thm.met 𝓤 H 𝓜 𝓖 𝓡)))
+    (finishing.meets narrow-types (λ h s. numberOf (finishAnswer narrowKind (hashOf h) s)) (λ h s. finishOut narrowKind (hashOf h) s) 𝓤 H (𝓖 .A) (givenOf 𝓤 H 𝓜 𝓖) #value (tablesOf 𝓤 H 𝓜 (tables 𝓤 H 𝓜 𝓡 code.env))
+    (cited 𝓤 H (finishing.Value narrow-types (λ h s. numberOf (finishAnswer narrowKind (hashOf h) s)) (λ h s. finishOut narrowKind (hashOf h) s) 𝓤 H (𝓖 .A)) 𝓜 𝓡 code.env #value value-def.routine code.calls-pieces·narrow-finish (value-thm.met 𝓤 H 𝓜 𝓖 𝓡)))

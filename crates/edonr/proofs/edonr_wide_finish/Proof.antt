@@ -5,7 +5,7 @@ use denote.Triple.Table.{entered, cited}
 use Rattle.digest.specs.Kind.{wideKind}
 use Rattle.digest.specs.State.{finishAnswer, finishOut}
 use Rattle.wide.specs.Outcomes.{hashOf}
-use Rattle.pieces.specs.Number.{hashNumber}
+use Rattle.answer.specs.Number.{numberOf}
 use Rattle.walk.proofs.Finishing as finishing
 use Rattle.edonr.proofs.HashTypes.{wide-types}
 use Rattle.pieces.proofs.wide_finish.Symbol as value-def
@@ -21,5 +21,5 @@ unfolding code.routine tablesOf
 edonr-wide-finish-spec 𝓤 H 𝓜 𝓖 𝓡 =
     entered 𝓤 H (tripleOf 𝓤 H (𝓖 .A) f.signature (f.spec 𝓤 H (𝓖 .A) (𝓜 .mem) (𝓡 .run)))
     (tables 𝓤 H 𝓜 𝓡 code.env .C) (tables 𝓤 H 𝓜 𝓡 code.env .Λ) #f code.function (code.unfolded 𝓤 H 𝓜 𝓡)
-    (finishing.meets wide-types (λ h s. hashNumber (finishAnswer wideKind (hashOf h) s)) (λ h s. finishOut wideKind (hashOf h) s) 𝓤 H (𝓖 .A) (givenOf 𝓤 H 𝓜 𝓖) #value (tablesOf 𝓤 H 𝓜 (tables 𝓤 H 𝓜 𝓡 code.env))
-    (cited 𝓤 H (finishing.Value wide-types (λ h s. hashNumber (finishAnswer wideKind (hashOf h) s)) (λ h s. finishOut wideKind (hashOf h) s) 𝓤 H (𝓖 .A)) 𝓜 𝓡 code.env #value value-def.routine code.calls-pieces·wide-finish (value-thm.met 𝓤 H 𝓜 𝓖 𝓡)))
+    (finishing.meets wide-types (λ h s. numberOf (finishAnswer wideKind (hashOf h) s)) (λ h s. finishOut wideKind (hashOf h) s) 𝓤 H (𝓖 .A) (givenOf 𝓤 H 𝓜 𝓖) #value (tablesOf 𝓤 H 𝓜 (tables 𝓤 H 𝓜 𝓡 code.env))
+    (cited 𝓤 H (finishing.Value wide-types (λ h s. numberOf (finishAnswer wideKind (hashOf h) s)) (λ h s. finishOut wideKind (hashOf h) s) 𝓤 H (𝓖 .A)) 𝓜 𝓡 code.env #value value-def.routine code.calls-pieces·wide-finish (value-thm.met 𝓤 H 𝓜 𝓖 𝓡)))

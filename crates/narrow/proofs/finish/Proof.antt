@@ -64,4 +64,4 @@ finish-spec =
     tie.close
     (tie.spec
     (λ c κs. search needs) (λ c κs. search needs) returns array-share-prefix-w slice-aggregate-close mul-close close-requires
-    (λ c. search needs) write32-requires (λ c. search needs) returns-2)
+    write32-requires (λ c. search needs) returns-2)

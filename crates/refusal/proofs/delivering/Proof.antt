@@ -1,5 +1,4 @@
 use borrow.Author.Tests.{le-leb, lt-leb}
-use borrow.Author.Needs.{needs}
 use Rattle.refusal.proofs.delivering.Statement.{statement}
 use Rattle.refusal.proofs.delivering.Tie as tie
 
@@ -10,4 +9,4 @@ returns-2 : tie.Need-returns-2
 returns-2 c = rw (le-leb _ _ (c .if1 .left))
 
 pub delivering-spec : {M : Type 1} → statement M
-delivering-spec = tie.close (tie.spec (λ c. search needs) returns (λ c. search needs) returns-2)
+delivering-spec = tie.close (tie.spec returns returns-2)

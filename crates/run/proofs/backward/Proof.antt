@@ -1,7 +1,7 @@
 use mathlib.Core.Path.{_≡_, refl, ap, _∙_}
 use mathlib.Core.Bool.{true}
 use mathlib.Core.List.{reverse}
-use Prim.Native.Nat.{ℕ, _-_, _*_, _≤_}
+use Prim.Native.Nat.{ℕ, suc, _+_, _-_, _*_, _≤_}
 use native.Mathlib.Omega.{arith}
 use borrow.Author.Needs.{needs}
 use denote.Ref.{now}
@@ -14,18 +14,26 @@ use Rattle.run.proofs.backward.Statement.{statement}
 use Rattle.run.proofs.backward.Tie as tie
 
 abbrev Inv-loop : tie.InvT-loop
-Inv-loop width sheet offsets n vectors₀ i₀ vectors i =
-    (known width ≡ true) × (length vectors ≡ placeCount * width) × (length vectors ≡ length vectors₀) × (i ≤ length offsets)
-    × (steps Backward width sheet (reverse (take i offsets)) (vectorsIn width vectors) ≡ steps Backward width sheet (reverse (take n offsets)) (vectorsIn width vectors₀))
+Inv-loop width sheet offsets n vectors₀ done₀ vectors done =
+    (known width ≡ true) × (length vectors ≡ placeCount * width) × (length vectors ≡ length vectors₀) × (done ≤ n) × (n ≤ length offsets)
+    × (steps Backward width sheet (reverse (take (n - done) offsets)) (vectorsIn width vectors)
+    ≡ steps Backward width sheet (reverse (take n offsets)) (vectorsIn width vectors₀))
 
 abbrev μ-loop : tie.MeasureT-loop
-μ-loop width sheet offsets n vectors₀ i₀ vectors i = i
+μ-loop width sheet offsets n vectors₀ done₀ vectors done = n - done
 
 loop-holds : tie.Need-loop-holds Inv-loop μ-loop
-loop-holds c = let p = c .before .before .before in (p .pre .0, p .pre .1, refl, p .pre .2, refl)
+loop-holds c =
+    let p = c .before .before .before in
+    let a = p .args in
+    let e : a .n - 0 ≡ a .n = omega arith in
+    (p .pre .0, p .pre .1, refl, omega arith, p .pre .2, rw e)
 
-sub-i : tie.Need-sub-i Inv-loop μ-loop
-sub-i c = search needs
+sub-last : tie.Need-sub-last Inv-loop μ-loop
+sub-last c = search needs
+
+sub-last-2 : tie.Need-sub-last-2 Inv-loop μ-loop
+sub-last-2 c = search needs
 
 mul-wide16 : tie.Need-mul-wide16 Inv-loop μ-loop
 mul-wide16 c = search needs
@@ -39,6 +47,9 @@ wide16-requires c κs = search needs
 undo-requires : tie.Need-undo-requires Inv-loop μ-loop
 undo-requires c κs = search needs
 
+add-done : tie.Need-add-done Inv-loop μ-loop
+add-done c = search needs
+
 loop-less : tie.Need-loop-less Inv-loop μ-loop
 loop-less c = search needs
 
@@ -47,13 +58,22 @@ loop-again c =
     let t = c .before .before .before .before .before .before in
     let p = t .before in
     let a = p .before .before .before .before .args in
-    let v = vectorsIn (a .width) (p .loop .vectors) in (
-      p .loop .inv .0,
+    let w = a .width in
+    let s = now (a .sheet) in
+    let l = now (a .offsets) in
+    let v = vectorsIn w (p .loop .vectors) in
+    let last = a .n - 1 - p .loop .done in
+    let b : a .n - p .loop .done ≡ suc last = omega arith in
+    let d : last ≡ a .n - (p .loop .done + 1) = omega arith in
+    let i = p .loop .inv in (
+      i .0,
       search needs,
       search needs,
       omega arith,
-      backward-more (a .width) (now (a .sheet)) (p .loop .i) v (now (a .offsets)) (t .loop-test .taken) (p .loop .inv .3) (p .loop .inv .4)
-          (c .before .before .undo .ensures ∙ ap (λ (i : ℕ). step Backward (a .width) (now (a .sheet)) i v) (c .before .before .before .before .wide16 .ensures)),
+      i .4,
+      rw (← d)
+          (backward-more w s (a .n - p .loop .done) v l last b (omega arith) (i .5)
+          (c .before .before .undo .ensures ∙ ap (λ (j : ℕ). step Backward w s j v) (c .before .before .before .before .wide16 .ensures))),
     )
 
 same-length : tie.Need-same-length Inv-loop μ-loop
@@ -63,12 +83,12 @@ returns : tie.Need-returns Inv-loop μ-loop
 returns c =
     let p = c .before in
     let a = p .before .before .before .before .args in
-    let e : p .loop .i ≡ 0 = omega arith in
-    rw e at (p .loop .inv .4)
+    let e : a .n - p .loop .done ≡ 0 = omega arith in
+    rw e at (p .loop .inv .5)
 
 pub backward-spec : {M : Type 1} → statement M
 backward-spec =
     tie.close
     (tie.spec
-    Inv-loop μ-loop loop-holds sub-i mul-wide16 shared-slice-read-wide16 wide16-requires undo-requires loop-less loop-again
-    same-length returns)
+    Inv-loop μ-loop loop-holds sub-last sub-last-2 mul-wide16 shared-slice-read-wide16 wide16-requires undo-requires add-done loop-less
+    loop-again same-length returns)

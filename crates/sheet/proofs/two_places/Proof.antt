@@ -1,14 +1,14 @@
+use native.Mathlib.Omega.{arith}
 use borrow.Author.Tests.{eq-eqb, ne-eqb, le-leb, lt-leb}
+use Rattle.sheet.specs.Read.{placeCount}
 use Rattle.sheet.proofs.two_places.Statement.{statement}
 use Rattle.sheet.proofs.two_places.Tie as tie
-use Rattle.sheet.proofs.two_places.Reads as reads
-use Rattle.sheet.proofs.two_places.Lts as lts
 
 returns : tie.Need-returns
 returns c = rw (le-leb _ _ (c .if1 .taken))
 
 returns-2 : tie.Need-returns-2
-returns-2 c = rw (lt-leb _ _ (c .before .before .if1 .left), le-leb _ _ (c .if2 .taken))
+returns-2 c = let a = c .before .before .before .before .args in rw (lt-leb _ _ (c .before .before .if1 .left), le-leb placeCount (a .p .s) (omega arith))
 
 returns-3 : tie.Need-returns-3
 returns-3 c = rw (lt-leb _ _ (c .before .before .before .before .if1 .left), lt-leb _ _ (c .before .before .if2 .left), eq-eqb _ _ (c .if3 .taken))
