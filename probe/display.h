@@ -22,6 +22,7 @@ struct display {
     bool told_turn;
 };
 
+/* To be called when the known answers were right and the loads are ready. */
 void display_open(struct display *display, const struct options *options,
                   const struct load *loads);
 

@@ -10,6 +10,7 @@
 
 #include "clock.h"
 #include "display.h"
+#include "known.h"
 #include "load.h"
 #include "log.h"
 #include "options.h"
@@ -17,7 +18,7 @@
 #include "verdict.h"
 #include "worker.h"
 
-enum { STATUS_UNABLE = 2 };
+enum { STATUS_WRONG = 1, STATUS_UNABLE = 2 };
 
 static const double look_seconds = 0.1;
 
@@ -102,8 +103,11 @@ static int travel(struct probe *probe)
     return verdict(&probe->options, probe->progress);
 }
 
+/* Known answers first: the calls try the sheets, too. */
 static int run(struct probe *probe)
 {
+    if (!known_check())
+        return STATUS_WRONG;
     if (!load_prepare(&probe->options, probe->loads) ||
         !log_open(&probe->options, &probe->log))
         return STATUS_UNABLE;

@@ -14,6 +14,7 @@ struct refusal {
 static const struct refusal refusals[] = {
     {EDONR_REFUSED_SIZE, "EDONR_REFUSED_SIZE",
      "the digest size is none of 224, 256, 384 and 512"},
+    {EDONR_REFUSED_STATE, "EDONR_REFUSED_STATE", "the hash in progress is not in form"},
     {EDONR_REFUSED_MESSAGE, "EDONR_REFUSED_MESSAGE", "the message is over 2^61 - 1 bytes"},
     {EDONR_REFUSED_OUTPUT, "EDONR_REFUSED_OUTPUT", "the output is too short"},
     {EDONR_REFUSED_WIDTH, "EDONR_REFUSED_WIDTH", "the width is neither 32 nor 64"},
@@ -37,11 +38,12 @@ static struct refusal find_refusal(uint32_t number)
 
 void answer_text(uint64_t answer, char *text, size_t len)
 {
-    if (edonr_refusal(answer) == 0) {
+    uint64_t unmarked = answer < EDONR_MARK ? answer : answer - EDONR_MARK;
+    if (edonr_refusal(unmarked) == 0) {
         snprintf(text, len, "%" PRIu64, answer);
         return;
     }
-    struct refusal refusal = find_refusal(edonr_refusal(answer));
+    struct refusal refusal = find_refusal(edonr_refusal(unmarked));
     snprintf(text, len, "refusal %" PRIu32 " %s at offset %" PRIu32 " (%s)", refusal.number,
              refusal.name, edonr_offset(answer), refusal.meaning);
 }

@@ -9,8 +9,8 @@
 
 enum { ANSWER_TEXT = 160 };
 
-/* A refusal as number, name, offset and meaning; a success as its number. The text is cut
-   to len bytes, its closing zero among them. */
+/* A refusal, marked or not, as number, name, offset and meaning; a success below 2^32 as its
+   number. The text is cut to len bytes, its closing zero among them. */
 void answer_text(uint64_t answer, char *text, size_t len);
 
 #endif

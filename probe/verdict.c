@@ -120,13 +120,14 @@ static int tell_self_test(const struct options *options, const struct progress *
     bool blind = count(options, threads, is_none) > 0;
     bool wrong = count(options, threads, is_wrong_answer) > 0;
     if (!blind && !wrong) {
-        printf("self-test passed: each bit that was flipped on purpose was seen; this is no "
-               "fault of the machine\n");
+        printf("self-test passed: no thread found its start again, as the bit flipped on "
+               "purpose demands; this is no fault of the machine\n");
         return 0;
     }
     printf("self-test FAILED: ");
     list(options, threads, wrong ? is_wrong_answer : is_none);
-    printf(" %s\n", wrong ? "got a wrong answer" : "did not see the bit flipped on purpose");
+    printf(" %s\n", wrong ? "got a wrong answer"
+                          : "found the start again in spite of the bit flipped on purpose");
     return 1;
 }
 

@@ -1,5 +1,6 @@
 /*
- * Whether the machine came home.
+ * Whether the machine came home: on every thread all answers were alike, and the vectors of
+ * the start are there again.
  */
 #ifndef PROBE_VERDICT_H
 #define PROBE_VERDICT_H
