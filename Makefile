@@ -3,7 +3,8 @@
 #   make                the archive target/staticlib/libedonr.a, and target/probe/edonr-probe
 #   make run            a probe run of a few seconds
 #   make test           all tests: everything is proved and run from nothing; the gate calls it
-#   make bench          the benchmark's table
+#   make mutants        shows that the comparisons with C see wrong archives
+#   make bench          the benchmark's table; CC=clang sets the compiler of the C side
 #   make install        archive, header and probe under $(DESTDIR)$(PREFIX)
 #   make uninstall      removes those three
 #   make clean          removes all that was built, proofs included
@@ -16,12 +17,12 @@ DESTDIR =
 warnings = -Wall -Wextra -pedantic -Werror
 archive = target/staticlib/libedonr.a
 probe = target/probe/edonr-probe
-bench = target/bench/edonr-bench
+bench = target/bench/edonr-bench-$(notdir $(CC))
 header = include/edonr.h
 bench_sources = $(wildcard bench/*.[ch] tests/harness/*.[ch] tests/reference/*.[ch])
 prefix = $(DESTDIR)$(PREFIX)
 
-.PHONY: all run test bench install uninstall clean
+.PHONY: all run test mutants bench install uninstall clean
 
 all: $(archive) $(probe)
 
@@ -43,6 +44,9 @@ run: $(probe)
 
 test:
 	@bash tests/gate
+
+mutants: $(archive)
+	@tests/mutants
 
 bench: $(bench)
 	@$(bench)

@@ -8,16 +8,20 @@
  * Answers
  *   Each call returns one 64-bit number. Below 2^32 it is a success, and the number is
  *   what that call says it returns. Otherwise it is a refusal: 2^32 times the refusal
- *   number, plus an offset, which is 0 unless the call says otherwise. A call refuses
- *   when, and only when, one of its conditions holds; conditions are tried in the order
- *   that the call lists them, and the first that holds decides. A refusal writes nothing.
- *   A success writes the bytes that the call names and no others. Hashing in pieces (D)
- *   marks its refusals in another way, and says where it departs from this.
+ *   number, plus an offset, which is 0 unless the call says otherwise.
+ *   A call whose success can pass 2^32 marks its refusals, and says so: edonr_narrow_feed
+ *   and edonr_wide_feed do. Below 2^63 their number is a success, and a refusal has bit 63
+ *   set besides.
+ *   A call refuses when, and only when, one of its conditions holds; conditions are tried
+ *   in the order that the call lists them, and the first that holds decides. A refusal
+ *   changes no byte of what is lent, and a success writes the bytes that the call names
+ *   and no others.
  *
  * What a caller must keep
- *   The buffers of one call do not overlap, and each has the length given with it; a
- *   pointer is valid even where its length is 0. No call can test this, and nothing else
- *   is asked of the caller: every other argument is checked.
+ *   The buffers of one call do not overlap, and each has the length given with it; one of
+ *   length 0 is neither read nor written, and its pointer may be NULL. A pointer to a
+ *   struct (D) points to one of its kind. No call can test this, and nothing else is asked
+ *   of the caller: every other argument is checked.
  *
  * Threads
  *   Nothing is kept between calls: no state, no tables filled at first use, no memory
@@ -32,6 +36,8 @@
 #ifdef __cplusplus
 extern "C" {
 #endif
+
+/* The first three are for answers of calls that do not mark their refusals. */
 
 /* The refusal number of an answer; 0 for a success. */
 static inline uint32_t edonr_refusal(uint64_t answer)
@@ -49,6 +55,14 @@ static inline uint32_t edonr_offset(uint64_t answer)
 static inline uint64_t edonr_refused(uint32_t refusal, uint32_t offset)
 {
     return ((uint64_t)refusal << 32) + offset;
+}
+
+#define EDONR_MARK ((uint64_t)1 << 63) /* set in a refusal where a success can pass 2^32 */
+
+/* The refusal number of an answer of a call that marks its refusals; 0 for a success. */
+static inline uint32_t edonr_marked_refusal(uint64_t answer)
+{
+    return answer < EDONR_MARK ? 0 : edonr_refusal(answer - EDONR_MARK);
 }
 
 /* ============================ A. Product and divisions ============================ */
@@ -189,15 +203,7 @@ uint64_t edonr_run_backward(uint32_t width, uint8_t *vectors, size_t vectors_len
  *
  * Of waiting the first total modulo block length bytes are waiting for their block to
  * fill. The bytes behind them never matter; opening and each accepted feeding leave them
- * zero. The compiler's four bytes of padding (behind waiting in the narrow struct, behind
- * size in the wide one) are no part of a hash, and no call promises anything of them: a
- * feeding can leave there bytes of what it worked on. So two hashes are compared field by
- * field, and a hash that leaves the program is written field by field.
- *
- * Answers
- *   A total can be past 2^32, so a refusal of these six calls has bit 63 set beside its
- *   number: it is EDONR_HASH_REFUSED + 2^32 times the refusal number. A success is its
- *   own number, below 2^61. edonr_hash_refusal tells them apart; edonr_refusal does not.
+ * zero. The structs have no padding, so hashes can be compared and kept as bytes.
  *
  * What a caller must keep
  *   hash points to one struct of its kind, which overlaps no buffer of the same call.
@@ -206,22 +212,8 @@ uint64_t edonr_run_backward(uint32_t width, uint8_t *vectors, size_t vectors_len
 
 #define EDONR_REFUSED_STATE 2 /* the hash in progress is not in form */
 
-#define EDONR_HASH_REFUSED ((uint64_t)1 << 63) /* set in the answer of a refusal */
-
-/* The refusal number of an answer of these calls; 0 for a success. */
-static inline uint32_t edonr_hash_refusal(uint64_t answer)
-{
-    return answer < EDONR_HASH_REFUSED ? 0 : (uint32_t)(answer >> 32 & 0x7FFFFFFFu);
-}
-
-/* The answer that a refusal of these calls gives. */
-static inline uint64_t edonr_hash_refused(uint32_t refusal)
-{
-    return EDONR_HASH_REFUSED + ((uint64_t)refusal << 32);
-}
-
 struct edonr_narrow {
-    uint32_t size;       /* 224 or 256 */
+    uint64_t size;       /* 224 or 256 */
     uint32_t first[8];   /* the pipe's first vector */
     uint32_t second[8];  /* and its second */
     uint8_t waiting[64]; /* one block */
@@ -229,18 +221,21 @@ struct edonr_narrow {
 };
 
 struct edonr_wide {
-    uint32_t size;        /* 384 or 512 */
+    uint64_t size;        /* 384 or 512 */
     uint64_t first[8];    /* the pipe's first vector */
     uint64_t second[8];   /* and its second */
     uint8_t waiting[128]; /* one block */
     uint64_t total;       /* the number of bytes fed so far */
 };
 
+/* A struct with padding would be longer than its fields, and this would not compile. */
+typedef char edonr_narrow_has_no_padding[sizeof(struct edonr_narrow) == 144 ? 1 : -1];
+typedef char edonr_wide_has_no_padding[sizeof(struct edonr_wide) == 272 ? 1 : -1];
+
 /*
  * Opens a hash of the narrow kind, whatever hash held before.
  *
- * Writes   hash: the starting state of this size, or, beside a refusal, zeros, which are
- *          not in form. It is the one call that writes although it refuses.
+ * Writes   on success hash: the starting state of this size. A refusal leaves it.
  * Returns  0.
  * Refuses  1 EDONR_REFUSED_SIZE  size is neither 224 nor 256.
  */
@@ -251,7 +246,8 @@ uint64_t edonr_narrow_open(struct edonr_narrow *hash, uint32_t size);
  *
  * Reads    hash, and bytes, bytes_len of them; none is fine.
  * Writes   on success hash: the state after these bytes. A refusal leaves it.
- * Returns  the new total, at most 2^61 - 1.
+ * Returns  the new total, at most 2^61 - 1. As that can pass 2^32, a refusal is marked:
+ *          it is EDONR_MARK + 2^32 times its number, and edonr_marked_refusal tells it.
  * Refuses  in this order:
  *          2 EDONR_REFUSED_STATE    hash is not in form;
  *          3 EDONR_REFUSED_MESSAGE  the total would pass 2^61 - 1.
@@ -275,8 +271,7 @@ uint64_t edonr_narrow_finish(const struct edonr_narrow *hash, uint8_t *out, size
 /*
  * Opens a hash of the wide kind, whatever hash held before.
  *
- * Writes   hash: the starting state of this size, or, beside a refusal, zeros, which are
- *          not in form.
+ * Writes   on success hash: the starting state of this size. A refusal leaves it.
  * Returns  0.
  * Refuses  1 EDONR_REFUSED_SIZE  size is neither 384 nor 512.
  */
@@ -287,7 +282,7 @@ uint64_t edonr_wide_open(struct edonr_wide *hash, uint32_t size);
  *
  * Reads    hash, and bytes, bytes_len of them; none is fine.
  * Writes   on success hash: the state after these bytes. A refusal leaves it.
- * Returns  the new total, at most 2^61 - 1.
+ * Returns  the new total, at most 2^61 - 1; a refusal is marked, as edonr_narrow_feed's.
  * Refuses  what edonr_narrow_feed refuses, with the same answers.
  */
 uint64_t edonr_wide_feed(struct edonr_wide *hash, const uint8_t *bytes, size_t bytes_len);

@@ -1,5 +1,5 @@
 /*
- * The archive's digest against the reference, bit for bit.
+ * The archive's digest in one call against the reference, bit for bit.
  */
 #include <inttypes.h>
 #include <stdlib.h>
@@ -8,81 +8,93 @@
 #include "edonr.h"
 #include "harness/check.h"
 #include "harness/digest_call.h"
-#include "harness/lent.h"
-#include "harness/rng.h"
+#include "harness/random.h"
 
-enum { LONGEST_SHORT = 1200, ROUNDS = 3 };
+enum {
+    SHORT = 1200,
+    EVERY_LENGTH = 8200,
+    MIDDLE_MESSAGES = 1000,
+    LONG_MESSAGES = 10,
+    EVERY_SIZE = 1100
+};
 
 static const uint32_t sizes[4] = {224, 256, 384, 512};
-static struct rng rng = {20090116};
+static uint8_t message[DIGEST_CALL_MESSAGE];
 
-/* Several rounds, so that each length meets each position of the lent buffers. */
-static void compare_short(uint32_t size)
+static void compare_message(uint32_t size, size_t len, size_t out_len)
 {
-    uint8_t message[LONGEST_SHORT];
-    check_group("messages of 0 to %d bytes, size %" PRIu32, LONGEST_SHORT, size);
-    for (unsigned round = 0; round < ROUNDS; round++) {
-        for (size_t len = 0; len <= LONGEST_SHORT; len++) {
-            rng_fill(&rng, message, len);
-            check_digest_call(size, message, len, size / 8 + (len + round) % 9);
-        }
-    }
+    random_fill(message, len);
+    check_digest_call(size, message, len, out_len);
+}
+
+/* Three rounds of the shorter ones, so that each meets each position of the buffers. */
+static void compare_every_length(uint32_t size)
+{
+    check_group("messages of 0 to %d bytes, size %" PRIu32, EVERY_LENGTH, size);
+    for (unsigned round = 0; round < 3; round++)
+        for (size_t len = 0; len <= (round == 0 ? EVERY_LENGTH : SHORT); len++)
+            compare_message(size, len, size / 8 + (len + round) % 9);
 }
 
 /* Uniform messages: a block's place in the message shows in the length and pipe alone. */
 static void compare_uniform(uint32_t size)
 {
     static const uint8_t fills[] = {0x00, 0x80, 0xFF};
-    uint8_t message[300];
     check_group("uniform messages, size %" PRIu32, size);
     for (unsigned i = 0; i < sizeof fills; i++) {
-        memset(message, fills[i], sizeof message);
-        for (size_t len = 0; len <= sizeof message; len++)
+        memset(message, fills[i], 300);
+        for (size_t len = 0; len <= 300; len++)
             check_digest_call(size, message, len, size / 8);
     }
 }
 
+/* Lengths of up to 17 bits, each number of bits as often as another. */
+static void compare_middle(uint32_t size)
+{
+    check_group("messages of up to 2^17 bytes, size %" PRIu32, size);
+    for (unsigned i = 0; i < MIDDLE_MESSAGES; i++)
+        compare_message(size, (size_t)random_bits(17), size / 8 + random_below(20));
+}
+
+/* Around each power of two from 1 MiB, and at random up to the most that is lent. */
 static void compare_long(uint32_t size)
 {
-    static const size_t lengths[] = {
-        1 << 20,         (1 << 20) + 1,   (1 << 20) + 55, (1 << 20) + 56, (1 << 20) + 119,
-        (1 << 20) + 120, (1 << 20) + 127, 1500000,        (3 << 20) + 77,
-    };
-    check_group("messages over a megabyte, size %" PRIu32, size);
-    for (unsigned i = 0; i < sizeof lengths / sizeof lengths[0]; i++) {
-        uint8_t *message = malloc(lengths[i]);
-        if (message == NULL)
-            abort();
-        rng_fill(&rng, message, lengths[i]);
-        check_digest_call(size, message, lengths[i], size / 8);
-        free(message);
+    check_group("messages of 1 to 16 MiB, size %" PRIu32, size);
+    for (size_t power = 1 << 20; power < DIGEST_CALL_MESSAGE; power *= 2)
+        for (size_t len = power - 1; len <= power + 1; len++)
+            compare_message(size, len, size / 8);
+    for (unsigned i = 0; i < LONG_MESSAGES; i++) {
+        size_t most = DIGEST_CALL_MESSAGE >> i % 4;
+        compare_message(size, most / 2 + random_below(most / 2 + 1), size / 8);
     }
 }
 
 static void compare_outputs(uint32_t size)
 {
     static const size_t lengths[] = {0, 1, 55, 56, 64, 119, 120, 128, 500};
-    uint8_t message[500];
     check_group("output lengths, size %" PRIu32, size);
-    rng_fill(&rng, message, sizeof message);
     for (unsigned i = 0; i < sizeof lengths / sizeof lengths[0]; i++)
         for (size_t out_len = 0; out_len <= size / 8 + 8; out_len++)
-            check_digest_call(size, message, lengths[i], out_len);
+            compare_message(size, lengths[i], out_len);
+}
+
+static void compare_size(uint32_t size)
+{
+    for (size_t out_len = 0; out_len <= 72; out_len++)
+        compare_message(size, out_len % 3 * 100, out_len);
 }
 
 static void compare_nonsense_sizes(void)
 {
-    static const uint32_t nonsense[] = {
-        0,   1,   28,  32,  48,  64,   128,      160,        192,         223,
-        225, 255, 257, 383, 385, 511,  513,      1024,       65536 + 224, 65536 + 256,
-        480, 288, 352, 736, 768, 1000, 1u << 31, 0xFFFFFF00, 0xFFFFFFFF,
-    };
-    uint8_t message[200];
-    check_group("nonsense sizes");
-    rng_fill(&rng, message, sizeof message);
-    for (unsigned i = 0; i < sizeof nonsense / sizeof nonsense[0]; i++)
-        for (size_t out_len = 0; out_len <= 72; out_len++)
-            check_digest_call(nonsense[i], message, out_len % 3 * 100, out_len);
+    check_group("nonsense sizes, and every size to %d", EVERY_SIZE);
+    for (uint32_t size = 0; size <= EVERY_SIZE; size++)
+        compare_size(size);
+    for (unsigned i = 0; i < 4; i++)
+        for (unsigned bit = 0; bit < 32; bit++)
+            compare_size(sizes[i] ^ 1u << bit);
+    compare_size(UINT32_MAX);
+    for (unsigned i = 0; i < 100; i++)
+        compare_size((uint32_t)random_bits(32));
 }
 
 struct point {
@@ -123,35 +135,45 @@ static const struct point points[] = {
 
 static void check_points(void)
 {
-    struct lent message = lent_area(3), out = lent_area(64);
-    uint8_t before[64];
     check_group("answers as numbers");
     for (unsigned i = 0; i < sizeof points / sizeof points[0]; i++) {
         const struct point *p = &points[i];
-        rng_fill(&rng, before, p->out_len);
-        lent_place(&message, (const uint8_t *)"abc", p->message_len < 3 ? 0 : 3);
-        lent_place(&out, before, p->out_len);
-        uint64_t got = edonr_digest(p->size, message.bytes, (size_t)p->message_len,
-                                    out.bytes, p->out_len);
+        uint64_t got = check_digest_call(p->size, (const uint8_t *)"abc",
+                                         (size_t)p->message_len, p->out_len);
         check(got == p->answer, "point %u: answered %" PRIx64, i, got);
-        check(edonr_refusal(got) == 0 || lent_holds(&out, before),
-              "point %u: a refusal wrote", i);
     }
     check(EDONR_REFUSED_SIZE == 1 && EDONR_REFUSED_MESSAGE == 3 &&
               EDONR_REFUSED_OUTPUT == 4,
           "the header's numbers");
 }
 
-int main(void)
+/* The digest that README gives, so that its readers know which EDON-R this is. */
+static void check_abc(void)
 {
-    check_program("compare_digest");
+    static const uint8_t want[32] = {
+        0x56, 0xd7, 0x89, 0xf3, 0xa0, 0x28, 0xbf, 0x3e, 0x86, 0xa8, 0x18,
+        0xa4, 0xe7, 0x71, 0xdf, 0x43, 0xf0, 0xeb, 0xde, 0xa3, 0x73, 0x7d,
+        0x1f, 0x4d, 0x56, 0x09, 0xed, 0x7d, 0x2f, 0xf3, 0xa5, 0x2d,
+    };
+    uint8_t got[32] = {0};
+    check_group("the digest of abc");
+    edonr_digest(256, (const uint8_t *)"abc", 3, got, sizeof got);
+    check(memcmp(got, want, sizeof want) == 0, "another digest");
+    check_digest_call(256, (const uint8_t *)"abc", 3, sizeof got);
+}
+
+int main(int argc, char **argv)
+{
+    check_program("compare_digest", argc, argv);
     for (unsigned i = 0; i < 4; i++) {
-        compare_short(sizes[i]);
+        compare_every_length(sizes[i]);
         compare_uniform(sizes[i]);
+        compare_middle(sizes[i]);
         compare_long(sizes[i]);
         compare_outputs(sizes[i]);
     }
     compare_nonsense_sizes();
     check_points();
+    check_abc();
     return check_finish();
 }

@@ -8,13 +8,17 @@
 #include "edonr.h"
 #include "harness/check.h"
 #include "harness/product_call.h"
-#include "harness/rng.h"
+#include "harness/random.h"
 #include "reference/division.h"
 
-enum { RANDOM_PAIRS = 100000, EQUATION_PAIRS = 20000, SPARSE_PAIRS = 20000 };
+enum {
+    RANDOM_PAIRS = 100000,
+    SPARSE_PAIRS = 20000,
+    EQUATION_PAIRS = 10000,
+    RANDOM_WIDTHS = 10
+};
 
 static const uint32_t widths[2] = {32, 64};
-static struct rng rng = {20090115};
 
 static void check_all_operations(uint32_t width, const uint8_t *first,
                                  const uint8_t *second, size_t out_len)
@@ -31,8 +35,8 @@ static void compare_random(uint32_t width)
     check_group("random operands, width %" PRIu32, width);
     for (unsigned i = 0; i < RANDOM_PAIRS; i++) {
         uint8_t first[64], second[64];
-        rng_fill(&rng, first, width);
-        rng_fill(&rng, second, width);
+        random_fill(first, width);
+        random_fill(second, width);
         check_all_operations(width, first, second, width + i % 9);
     }
 }
@@ -41,8 +45,8 @@ static void compare_random(uint32_t width)
 static void sparse_vector(uint32_t width, uint8_t vector[64])
 {
     memset(vector, 0, 64);
-    for (uint64_t bits = rng_below(&rng, 4); bits > 0; bits--) {
-        uint64_t bit = rng_below(&rng, 8 * width);
+    for (uint64_t bits = random_below(4); bits > 0; bits--) {
+        uint64_t bit = random_below(8 * width);
         vector[bit / 8] ^= (uint8_t)(1u << bit % 8);
     }
 }
@@ -115,11 +119,14 @@ static void compare_extreme(uint32_t width)
     }
 }
 
-/* first op second, by the archive alone. */
-static void archive_apply(unsigned operation, uint32_t width, const uint8_t *first,
-                          const uint8_t *second, uint8_t *out)
+typedef operation_call *const operation_pair[2];
+
+/* first op second, by the archive (0) or by the reference (1). */
+static void apply(unsigned by, unsigned operation, uint32_t width, const uint8_t *first,
+                  const uint8_t *second, uint8_t *out)
 {
-    operations[operation].archive(width, first, width, second, width, out, width);
+    operation_pair calls = {operations[operation].archive, operations[operation].reference};
+    calls[by](width, first, width, second, width, out, width);
 }
 
 static void check_equal(uint32_t width, const uint8_t *got, const uint8_t *want,
@@ -128,21 +135,24 @@ static void check_equal(uint32_t width, const uint8_t *got, const uint8_t *want,
     check(memcmp(got, want, width) == 0, "%s", equation);
 }
 
-/* The four equations that make a division a division. */
+/* The four equations that make a division a division, each between the two
+   implementations: one side works out, the other undoes. */
 static void check_equations(uint32_t width, const uint8_t *a, const uint8_t *b)
 {
-    uint8_t solved[64], back[64];
-    archive_apply(LEFT_DIVISION, width, a, b, solved);
-    archive_apply(PRODUCT, width, a, solved, back);
-    check_equal(width, back, b, "a*(a\\b) = b");
-    archive_apply(RIGHT_DIVISION, width, b, a, solved);
-    archive_apply(PRODUCT, width, solved, a, back);
-    check_equal(width, back, b, "(b/a)*a = b");
-    archive_apply(PRODUCT, width, a, b, solved);
-    archive_apply(LEFT_DIVISION, width, a, solved, back);
-    check_equal(width, back, b, "a\\(a*b) = b");
-    archive_apply(RIGHT_DIVISION, width, solved, b, back);
-    check_equal(width, back, a, "(a*b)/b = a");
+    for (unsigned by = 0; by < 2; by++) {
+        uint8_t solved[64], back[64];
+        apply(by, LEFT_DIVISION, width, a, b, solved);
+        apply(1 - by, PRODUCT, width, a, solved, back);
+        check_equal(width, back, b, "a*(a\\b) = b");
+        apply(by, RIGHT_DIVISION, width, b, a, solved);
+        apply(1 - by, PRODUCT, width, solved, a, back);
+        check_equal(width, back, b, "(b/a)*a = b");
+        apply(by, PRODUCT, width, a, b, solved);
+        apply(1 - by, LEFT_DIVISION, width, a, solved, back);
+        check_equal(width, back, b, "a\\(a*b) = b");
+        apply(1 - by, RIGHT_DIVISION, width, solved, b, back);
+        check_equal(width, back, a, "(a*b)/b = a");
+    }
 }
 
 static void solve_equations(uint32_t width)
@@ -150,8 +160,8 @@ static void solve_equations(uint32_t width)
     check_group("quasigroup equations, width %" PRIu32, width);
     uint8_t a[64], b[64];
     for (unsigned i = 0; i < EQUATION_PAIRS; i++) {
-        rng_fill(&rng, a, width);
-        rng_fill(&rng, b, width);
+        random_fill(a, width);
+        random_fill(b, width);
         check_equations(width, a, b);
     }
     for (unsigned i = 0; i < extreme_count(width); i++) {
@@ -169,8 +179,8 @@ static void compare_refusals(uint32_t width)
     enum { LENGTHS = sizeof lengths / sizeof lengths[0] };
     uint8_t first[128], second[128];
     check_group("lengths at width %" PRIu32, width);
-    rng_fill(&rng, first, sizeof first);
-    rng_fill(&rng, second, sizeof second);
+    random_fill(first, sizeof first);
+    random_fill(second, sizeof second);
     size_t most_out = (width == 32 ? 32 : 64) + 8;
     for (unsigned n = 0; n < OPERATIONS * LENGTHS * LENGTHS; n++) {
         struct product_call call = {&operations[n % OPERATIONS],
@@ -191,29 +201,55 @@ struct point {
     uint64_t answer;
 };
 
+#define OVER ((uint64_t)1 << 32)
+
 /* The order of refusals as numbers, without the reference. */
+static const struct point points[] = {
+    {0, 0, 0, 0, 5ull << 32},
+    {33, 32, 32, 32, 5ull << 32},
+    {31, 31, 31, 31, 5ull << 32},
+    {128, 128, 128, 128, 5ull << 32},
+    {32, 31, 32, 0, 6ull << 32},
+    {32, 32, 33, 32, 6ull << 32},
+    {32, 64, 64, 64, 6ull << 32},
+    {64, 32, 32, 64, 6ull << 32},
+    {64, 64, 0, 64, 6ull << 32},
+    {32, OVER + 32, 32, 32, 6ull << 32},
+    {32, 32, OVER + 32, 32, 6ull << 32},
+    {64, OVER + 64, OVER + 64, 64, 6ull << 32},
+    {64, 64, UINT64_MAX, 0, 6ull << 32},
+    {33, UINT64_MAX, UINT64_MAX, 0, 5ull << 32},
+    {32, 32, 32, 31, 4ull << 32},
+    {64, 64, 64, 63, 4ull << 32},
+    {64, 64, 64, 0, 4ull << 32},
+    {32, 32, 32, 32, 32},
+    {32, 32, 32, 100, 32},
+    {64, 64, 64, 64, 64},
+    {64, 64, 64, 100, 64},
+};
+
 static void check_points(void)
 {
-    static const struct point points[] = {
-        {0, 0, 0, 0, 5ull << 32},     {33, 32, 32, 32, 5ull << 32},
-        {31, 31, 31, 31, 5ull << 32}, {128, 128, 128, 128, 5ull << 32},
-        {32, 31, 32, 0, 6ull << 32},  {32, 32, 33, 32, 6ull << 32},
-        {32, 64, 64, 64, 6ull << 32}, {64, 32, 32, 64, 6ull << 32},
-        {64, 64, 0, 64, 6ull << 32},  {32, 32, 32, 31, 4ull << 32},
-        {64, 64, 64, 63, 4ull << 32}, {64, 64, 64, 0, 4ull << 32},
-        {32, 32, 32, 32, 32},         {32, 32, 32, 100, 32},
-        {64, 64, 64, 64, 64},         {64, 64, 64, 100, 64},
-    };
     static const uint8_t first[128], second[128];
-    uint8_t out[128];
     check_group("answers as numbers");
     for (unsigned n = 0; n < OPERATIONS * sizeof points / sizeof points[0]; n++) {
         const struct point *p = &points[n / OPERATIONS];
-        uint64_t got = operations[n % OPERATIONS].archive(
-            p->width, first, p->first_len, second, p->second_len, out, p->out_len);
-        check(got == p->answer, "%s, point %u: answered %" PRIx64,
-              operations[n % OPERATIONS].name, n / OPERATIONS, got);
+        struct product_call call = {&operations[n % OPERATIONS],
+                                    p->width,
+                                    first,
+                                    p->first_len,
+                                    second,
+                                    p->second_len,
+                                    p->out_len};
+        uint64_t got = check_product_call(&call);
+        check(got == p->answer, "%s, point %u: answered %" PRIx64, call.operation->name,
+              n / OPERATIONS, got);
     }
+}
+
+static void check_header(void)
+{
+    check_group("the header");
     check(edonr_refused(EDONR_REFUSED_OUTPUT, 0) == 4ull << 32, "the header's number 4");
     check(edonr_refused(EDONR_REFUSED_WIDTH, 0) == 5ull << 32, "the header's number 5");
     check(edonr_refused(EDONR_REFUSED_LENGTH, 7) == (6ull << 32) + 7, "the header's 6");
@@ -222,10 +258,10 @@ static void check_points(void)
     check(edonr_refusal(64) == 0 && edonr_offset(64) == 64, "a success taken apart");
 }
 
-int main(void)
+int main(int argc, char **argv)
 {
     static const uint32_t nonsense[] = {0, 1, 31, 33, 63, 65, 128, 0xFFFFFFFF};
-    check_program("compare_product");
+    check_program("compare_product", argc, argv);
     reference_init();
     for (unsigned i = 0; i < 2; i++) {
         compare_random(widths[i]);
@@ -236,6 +272,9 @@ int main(void)
     }
     for (unsigned i = 0; i < sizeof nonsense / sizeof nonsense[0]; i++)
         compare_refusals(nonsense[i]);
+    for (unsigned i = 0; i < RANDOM_WIDTHS; i++)
+        compare_refusals(widths[i % 2] ^ 1u << random_below(32));
     check_points();
+    check_header();
     return check_finish();
 }

@@ -7,22 +7,27 @@
 
 #include "edonr.h"
 #include "harness/check.h"
-#include "harness/lent.h"
-#include "harness/rng.h"
+#include "harness/random.h"
 #include "harness/run_call.h"
 #include "harness/sheet_maker.h"
 #include "reference/division.h"
 
-enum { RANDOM_SHEETS = 20000, FULL_SHEETS = 50, LISTS = 4000, MOST_RUNS = 6 };
+enum {
+    RANDOM_SHEETS = 20000,
+    FULL_SHEETS = 50,
+    MOST_COMMANDS = SHEET_MOST_BYTES / 2,
+    MOST_OF_THREE = SHEET_MOST_BYTES / 3,
+    LISTS = 3000,
+    MOST_RUNS = 6
+};
 
 static const uint32_t widths[2] = {32, 64};
-static struct rng rng = {20090117};
 
 /* Mostly short sheets, some of any length; never of one byte, which no command fills. */
 static size_t random_sheet_len(void)
 {
-    uint64_t most = rng_below(&rng, 20) == 0 ? SHEET_MOST_BYTES : 200;
-    size_t len = (size_t)rng_below(&rng, most + 1);
+    uint64_t most = random_below(20) == 0 ? SHEET_MOST_BYTES : 200;
+    size_t len = (size_t)random_below(most + 1);
     return len == 1 ? 0 : len;
 }
 
@@ -33,7 +38,7 @@ static void check_both_directions(uint32_t width, const uint8_t *sheet, size_t s
     uint8_t vectors[RUN_CALL_VECTORS];
     for (enum direction d = FORWARD; d < DIRECTIONS; d++) {
         struct run run = {d, width, sheet, sheet_len};
-        rng_fill(&rng, vectors, vectors_len);
+        random_pattern(vectors, vectors_len);
         check_run_call(&run, vectors, vectors_len);
     }
 }
@@ -43,9 +48,9 @@ static void compare_random(uint32_t width)
     static struct sheet sheet;
     check_group("random sheets, width %" PRIu32, width);
     for (unsigned i = 0; i < RANDOM_SHEETS; i++) {
-        make_sheet(&rng, width, random_sheet_len(), &sheet);
+        make_sheet(width, random_sheet_len(), &sheet);
         if (i % 3 == 0)
-            damage_sheet(&rng, &sheet);
+            damage_sheet(&sheet);
         check_both_directions(width, sheet.bytes, sheet.len, 4 * width);
     }
 }
@@ -56,10 +61,55 @@ static void compare_full(uint32_t width)
     static struct sheet sheet;
     check_group("sheets of 4,096 and 4,097 bytes, width %" PRIu32, width);
     for (unsigned i = 0; i < FULL_SHEETS; i++) {
-        make_sheet(&rng, width, SHEET_MOST_BYTES, &sheet);
+        make_sheet(width, SHEET_MOST_BYTES, &sheet);
         check_both_directions(width, sheet.bytes, SHEET_MOST_BYTES, 4 * width);
         sheet.bytes[SHEET_MOST_BYTES] = (uint8_t)(i % 10);
         check_both_directions(width, sheet.bytes, SHEET_MOST_BYTES + 1, 4 * width);
+    }
+}
+
+/* So many commands in so many bytes, and now and then the same sheet with a damage, which
+   can be at its very end. */
+static void check_counted(uint32_t width, size_t count, size_t len)
+{
+    static struct sheet sheet;
+    make_counted_sheet(width, count, len, &sheet);
+    check_both_directions(width, sheet.bytes, sheet.len, 4 * width);
+    if (random_below(4) == 0) {
+        damage_sheet(&sheet);
+        check_both_directions(width, sheet.bytes, sheet.len, 4 * width);
+    }
+}
+
+/* Every number of commands, each at a random length that so many can have. */
+static void compare_counts(uint32_t width)
+{
+    check_group("sheets of 0 to %d commands, width %" PRIu32, MOST_COMMANDS, width);
+    for (size_t count = 0; count <= MOST_COMMANDS; count++) {
+        size_t longest = count <= MOST_OF_THREE ? 3 * count : SHEET_MOST_BYTES;
+        check_counted(width, count, 2 * count + random_below(longest - 2 * count + 1));
+    }
+}
+
+/* The most commands: 2,048 flips, and 1,365 commands of three bytes. At random places,
+   since flips in turn would leave every vector as it was. */
+static void compare_most(uint32_t width)
+{
+    check_group("sheets of the most commands, width %" PRIu32, width);
+    for (unsigned i = 0; i < FULL_SHEETS; i++) {
+        check_counted(width, MOST_COMMANDS, 2 * MOST_COMMANDS);
+        check_counted(width, MOST_OF_THREE, 3 * MOST_OF_THREE);
+    }
+}
+
+/* Every length that commands can fill. */
+static void compare_lengths(uint32_t width)
+{
+    static struct sheet sheet;
+    check_group("sheets of 0 to %d bytes, width %" PRIu32, SHEET_MOST_BYTES, width);
+    for (size_t len = 0; len <= SHEET_MOST_BYTES; len += len == 0 ? 2 : 1) {
+        make_sheet(width, len, &sheet);
+        check_both_directions(width, sheet.bytes, sheet.len, 4 * width);
     }
 }
 
@@ -69,7 +119,7 @@ static void compare_cut_commands(uint32_t width)
     uint8_t command[2 + 64 + 1];
     check_group("one command, cut anywhere, width %" PRIu32, width);
     for (unsigned code = 0; code < 256; code++) {
-        rng_fill(&rng, command, sizeof command);
+        random_fill(command, sizeof command);
         command[0] = (uint8_t)code;
         command[1] = (uint8_t)(code % 4);
         command[2] = (uint8_t)((code + 1) % 4);
@@ -120,6 +170,7 @@ struct point {
     uint64_t answer;
 };
 
+#define OVER_32 ((uint64_t)1 << 32)
 #define REFUSED(number, offset) (((uint64_t)(number) << 32) + (offset))
 
 /* Answers as numbers, without the reference; bytes behind the four given are 0. */
@@ -142,25 +193,25 @@ static const struct point points[] = {
     {"4,097 bytes", 64, 256, 4097, {6}, REFUSED(7, 0)},
     {"lengths and sheet", 32, 256, 4097, {9}, REFUSED(6, 0)},
     {"the other width's length", 64, 128, 0, {0}, REFUSED(6, 0)},
+    {"a length of 2^32 more", 32, OVER_32 + 128, 2, {6, 0}, REFUSED(6, 0)},
+    {"a sheet of 2^32 bytes more", 32, 128, OVER_32 + 2, {6, 0}, REFUSED(7, 0)},
+    {"a sheet of 2^32 bytes more, wide", 64, 256, OVER_32, {0}, REFUSED(7, 0)},
     {"width, lengths and sheet", 33, 1, 4097, {9}, REFUSED(5, 0)},
 };
 
 static void check_points(void)
 {
     static uint8_t sheet[RUN_CALL_SHEET];
-    uint8_t vectors[256], before[256];
+    uint8_t vectors[256];
     check_group("answers as numbers");
     for (unsigned n = 0; n < DIRECTIONS * sizeof points / sizeof points[0]; n++) {
         const struct point *p = &points[n / DIRECTIONS];
+        struct run run = {(enum direction)(n % DIRECTIONS), p->width, sheet, p->sheet_len};
         memset(sheet, 0, sizeof sheet);
         memcpy(sheet, p->sheet, sizeof p->sheet);
-        rng_fill(&rng, vectors, sizeof vectors);
-        memcpy(before, vectors, sizeof vectors);
-        uint64_t got = archive_runs[n % DIRECTIONS](p->width, vectors, p->vectors_len,
-                                                    sheet, p->sheet_len);
+        random_fill(vectors, sizeof vectors);
+        uint64_t got = check_run_call(&run, vectors, p->vectors_len);
         check(got == p->answer, "%s: answered %" PRIx64, p->what, got);
-        check(edonr_refusal(got) == 0 || memcmp(vectors, before, sizeof before) == 0,
-              "%s: a refusal wrote", p->what);
     }
     check(EDONR_REFUSED_SHEET == 7 && EDONR_REFUSED_COMMAND == 8 &&
               EDONR_REFUSED_CUT_COMMAND == 9 && EDONR_REFUSED_PLACE == 10 &&
@@ -168,35 +219,38 @@ static void check_points(void)
           "the header's numbers");
 }
 
-/* V0 = 1, 2, .., 8 and the other vectors 0, at width 32. */
-static void counting_vectors(uint8_t vectors[128])
+/* V0 = 1, 2, .., 8, or from 8 down to 1, and the other vectors 0, at width 32. */
+static void counting_vectors(uint8_t vectors[128], bool down)
 {
     memset(vectors, 0, 128);
     for (unsigned i = 0; i < 8; i++)
-        vectors[4 * i] = (uint8_t)(i + 1);
+        vectors[4 * i] = (uint8_t)(down ? 8 - i : i + 1);
 }
 
+/* The points of document 01 that flip, without the reference. */
 static void check_flips(void)
 {
+    static const struct run flip = {FORWARD, 32, (const uint8_t *)"\6\0", 2};
+    static const struct run faulty = {FORWARD, 32, (const uint8_t *)"\6\0\11", 3};
     uint8_t vectors[128], flipped[128], sheet[SHEET_MOST_BYTES];
     check_group("flips");
-    counting_vectors(vectors);
-    memset(flipped, 0, sizeof flipped);
-    for (unsigned i = 0; i < 8; i++)
-        flipped[4 * i] = (uint8_t)(8 - i);
-    uint64_t got = edonr_run_forward(32, vectors, 128, (const uint8_t *)"\6\0", 2);
-    check(got == 1 && memcmp(vectors, flipped, 128) == 0, "a flip of 1, 2, .., 8");
-    got = edonr_run_forward(32, vectors, 128, (const uint8_t *)"\6\0\11", 3);
-    check(got == REFUSED(8, 2) && memcmp(vectors, flipped, 128) == 0,
+    counting_vectors(vectors, false);
+    counting_vectors(flipped, true);
+    check(check_run_call(&flip, vectors, 128) == 1 && memcmp(vectors, flipped, 128) == 0,
+          "a flip of 1, 2, .., 8");
+    check(check_run_call(&faulty, vectors, 128) == REFUSED(8, 2) &&
+              memcmp(vectors, flipped, 128) == 0,
           "a refused sheet leaves V0 unflipped");
-    for (unsigned i = 0; i < SHEET_MOST_BYTES; i++)
-        sheet[i] = i % 2 == 0 ? 6 : (uint8_t)(i / 2 % 4);
-    for (unsigned i = 0; i < 2; i++) {
-        check_both_directions(widths[i], sheet, SHEET_MOST_BYTES, 4 * widths[i]);
-        uint8_t lent[256] = {0};
-        got = edonr_run_forward(widths[i], lent, 4 * widths[i], sheet, SHEET_MOST_BYTES);
-        check(got == 2048, "2,048 flips, width %" PRIu32, widths[i]);
-    }
+    memset(sheet, 6, sizeof sheet);
+    for (unsigned i = 1; i < sizeof sheet; i += 2)
+        sheet[i] = 0;
+    struct run many = {FORWARD, 32, sheet, sizeof sheet};
+    check(check_run_call(&many, vectors, 128) == 2048 && memcmp(vectors, flipped, 128) == 0,
+          "2,048 flips");
+    many.sheet_len -= 2;
+    counting_vectors(flipped, false);
+    check(check_run_call(&many, vectors, 128) == 2047 && memcmp(vectors, flipped, 128) == 0,
+          "2,047 flips");
 }
 
 struct list {
@@ -212,18 +266,18 @@ struct list {
 static void make_list(struct list *list)
 {
     static const size_t lens[] = {128, 256, 128, 256, 128, 256, 0, 100, 257};
-    list->count = 1 + (unsigned)rng_below(&rng, MOST_RUNS);
-    list->vectors_len = lens[rng_below(&rng, sizeof lens / sizeof lens[0])];
+    list->count = 1 + (unsigned)random_below(MOST_RUNS);
+    list->vectors_len = lens[random_below(sizeof lens / sizeof lens[0])];
     for (unsigned i = 0; i < list->count; i++) {
         struct sheet *sheet = &list->sheets[i];
-        uint64_t kind = rng_below(&rng, 16);
+        uint64_t kind = random_below(16);
         uint32_t width = list->vectors_len == 256 ? 64 : 32;
         if (kind < 3)
             width = 96 - width;
-        make_sheet(&rng, kind == 3 ? 96 - width : width, random_sheet_len(), sheet);
+        make_sheet(kind == 3 ? 96 - width : width, random_sheet_len(), sheet);
         if (kind >= 4 && kind < 7)
-            damage_sheet(&rng, sheet);
-        list->runs[i] = (struct run){(enum direction)rng_below(&rng, DIRECTIONS),
+            damage_sheet(sheet);
+        list->runs[i] = (struct run){(enum direction)random_below(DIRECTIONS),
                                      kind == 7 ? 33 : width, sheet->bytes, sheet->len};
     }
 }
@@ -233,7 +287,7 @@ static void check_list(struct list *list)
 {
     uint8_t start[RUN_CALL_VECTORS], vectors[RUN_CALL_VECTORS];
     uint64_t answers[MOST_RUNS];
-    rng_fill(&rng, start, list->vectors_len);
+    random_pattern(start, list->vectors_len);
     memcpy(vectors, start, list->vectors_len);
     for (unsigned i = 0; i < list->count; i++)
         answers[i] = check_run_call(&list->runs[i], vectors, list->vectors_len);
@@ -257,12 +311,15 @@ static void compare_lists(void)
     }
 }
 
-int main(void)
+int main(int argc, char **argv)
 {
-    check_program("compare_sheets");
+    check_program("compare_sheets", argc, argv);
     reference_init();
     for (unsigned i = 0; i < 2; i++) {
         compare_random(widths[i]);
+        compare_counts(widths[i]);
+        compare_most(widths[i]);
+        compare_lengths(widths[i]);
         compare_full(widths[i]);
         compare_cut_commands(widths[i]);
         compare_places(widths[i]);

@@ -1,147 +1,203 @@
 /*
- * fuzz [seconds]: all six calls with random arguments, sound and not, each compared with
- * the reference. The seed is fixed, so a longer run repeats a shorter one and goes on.
+ * fuzz [rounds]: all twelve calls with random arguments, sound, nearly sound and nonsense,
+ * each compared with the reference. The number of rounds is fixed, so that two runs from
+ * one seed are the same.
  */
+#include <stdbool.h>
 #include <stdio.h>
 #include <stdlib.h>
 #include <string.h>
-#include <time.h>
 
 #include "harness/check.h"
 #include "harness/digest_call.h"
+#include "harness/hash_call.h"
+#include "harness/hash_maker.h"
 #include "harness/product_call.h"
-#include "harness/rng.h"
+#include "harness/random.h"
 #include "harness/run_call.h"
 #include "harness/sheet_maker.h"
 #include "reference/answer.h"
+#include "reference/digest.h"
 #include "reference/division.h"
 
-enum { DEFAULT_SECONDS = 60, CALLS_BETWEEN_LOOKS = 256, MOST_MESSAGE = 2000 };
+enum { DEFAULT_ROUNDS = 1000000, MOST_MESSAGE = 1 << 16, CALLS = 12 };
 
-static struct rng rng = {20090118};
+static uint8_t bytes[MOST_MESSAGE];
 
-/* Bytes of one of several kinds: random, all alike, or a single bit. */
-static void fuzz_bytes(uint8_t *bytes, size_t len)
+/* ---------------- arguments ---------------- */
+
+/* Mostly the right number, else one that is close to it, else any. */
+static uint64_t fuzz_number(uint64_t right)
 {
-    switch (rng_below(&rng, 4)) {
-    case 0: memset(bytes, (int)rng_below(&rng, 256), len); break;
-    case 1:
-        memset(bytes, 0, len);
-        if (len > 0) {
-            uint64_t bit = rng_below(&rng, 8 * len);
-            bytes[bit / 8] = (uint8_t)(1u << bit % 8);
-        }
-        break;
-    default: rng_fill(&rng, bytes, len);
+    switch (random_below(10)) {
+    case 0: return random_bits(64);
+    case 1: return random_near(right);
+    default: return right;
     }
 }
 
-/* A length under the bound: mostly the right one, else next to it, else any. */
-static size_t fuzz_length(size_t right, size_t bound)
+/* The length of an output, which cannot be claimed only: a success writes there. */
+static size_t fuzz_out_len(uint64_t right)
 {
-    size_t len = right;
-    switch (rng_below(&rng, 16)) {
-    case 0: len = (size_t)rng_next(&rng); break;
-    case 1: len = right + 1; break;
-    case 2: len = right - 1; break;
-    default: break;
-    }
-    return len % bound;
+    uint64_t len = fuzz_number(right);
+    return len <= 200 ? (size_t)len : (size_t)random_below(200);
 }
 
 static uint32_t fuzz_width(void)
 {
-    switch (rng_below(&rng, 16)) {
-    case 0: return (uint32_t)rng_next(&rng);
-    case 1: return (uint32_t)rng_below(&rng, 130);
-    default: return rng_below(&rng, 2) == 0 ? 32 : 64;
-    }
+    return (uint32_t)fuzz_number(random_below(2) == 0 ? 32 : 64);
 }
 
-static uint64_t fuzz_operation(unsigned operation)
+/* Some lengths of a message that is lent: mostly a block or a few, some long. */
+static size_t fuzz_message_len(void)
+{
+    return (size_t)(random_below(8) == 0 ? random_bits(16) : random_below(300));
+}
+
+/* A length that is only claimed, over what any area lends. */
+static uint64_t fuzz_claim(void)
+{
+    return random_bits(64) | (uint64_t)1 << 32;
+}
+
+/* ---------------- calls ---------------- */
+
+static bool fuzz_operation(unsigned operation)
 {
     uint8_t first[PRODUCT_CALL_CAPACITY], second[PRODUCT_CALL_CAPACITY];
     uint32_t width = fuzz_width();
-    size_t first_len = fuzz_length(width, 200);
-    size_t second_len = fuzz_length(width, 200);
-    size_t out_len = fuzz_length(width, 200);
-    struct product_call call = {
-        &operations[operation], width, first, first_len, second, second_len, out_len};
-    fuzz_bytes(first, first_len);
-    fuzz_bytes(second, second_len);
-    return check_product_call(&call);
+    struct product_call call = {.operation = &operations[operation],
+                                .width = width,
+                                .first = first,
+                                .first_len = (size_t)fuzz_number(width),
+                                .second = second,
+                                .second_len = (size_t)fuzz_number(width),
+                                .out_len = fuzz_out_len(width)};
+    random_pattern(first, call.first_len <= sizeof first ? call.first_len : 0);
+    random_pattern(second, call.second_len <= sizeof second ? call.second_len : 0);
+    return is_refusal(check_product_call(&call));
 }
 
-static uint64_t fuzz_digest(void)
+/* A length is claimed only where the call refuses it. */
+static bool fuzz_digest(void)
 {
     static const uint32_t sizes[4] = {224, 256, 384, 512};
-    uint8_t message[MOST_MESSAGE];
-    uint32_t size = sizes[rng_below(&rng, 4)];
-    size_t message_len = (size_t)rng_below(&rng, rng_below(&rng, 4) ? 300 : MOST_MESSAGE);
-    size_t out_len = fuzz_length(size / 8, 200);
-    if (rng_below(&rng, 8) == 0)
-        size = (uint32_t)rng_below(&rng, rng_below(&rng, 2) ? (uint64_t)1 << 32 : 600);
-    fuzz_bytes(message, message_len);
-    return check_digest_call(size, message, message_len, out_len);
+    uint32_t right = sizes[random_below(4)], size = (uint32_t)fuzz_number(right);
+    size_t len = fuzz_message_len(), out_len = fuzz_out_len(right / 8);
+    uint64_t claim = fuzz_claim();
+    uint8_t out[200];
+    random_pattern(bytes, len);
+    bool refused = is_refusal(reference_digest(size, bytes, 0, out, out_len));
+    if (random_below(8) == 0 && (refused || claim > MOST_BYTES_FED))
+        len = (size_t)claim;
+    return is_refusal(check_digest_call(size, bytes, len, out_len));
 }
 
 /* Sound, damaged, or bytes that were never a sheet. */
 static void fuzz_sheet(uint32_t width, struct sheet *sheet)
 {
-    size_t len = (size_t)rng_below(&rng, rng_below(&rng, 16) ? 150 : SHEET_MOST_BYTES + 1);
-    uint64_t kind = rng_below(&rng, 4);
+    size_t len = (size_t)random_below(random_below(16) ? 150 : SHEET_MOST_BYTES + 1);
+    uint64_t kind = random_below(4);
     if (kind == 0) {
-        fuzz_bytes(sheet->bytes, len);
+        random_pattern(sheet->bytes, len);
         sheet->len = len;
         return;
     }
-    make_sheet(&rng, width == 32 || width == 64 ? width : 32, len == 1 ? 0 : len, sheet);
+    make_sheet(width == 32 || width == 64 ? width : 32, len == 1 ? 0 : len, sheet);
     if (kind == 1)
-        damage_sheet(&rng, sheet);
+        damage_sheet(sheet);
 }
 
-static uint64_t fuzz_run(enum direction direction)
+static bool fuzz_run(enum direction direction)
 {
     static struct sheet sheet;
     uint8_t vectors[RUN_CALL_VECTORS];
     uint32_t width = fuzz_width();
-    size_t vectors_len = fuzz_length(4 * (size_t)width, 600);
+    size_t vectors_len = (size_t)fuzz_number(4 * (uint64_t)width);
     fuzz_sheet(width, &sheet);
-    fuzz_bytes(vectors, vectors_len);
+    random_pattern(vectors, vectors_len <= sizeof vectors ? vectors_len : 0);
     struct run run = {direction, width, sheet.bytes, sheet.len};
-    return check_run_call(&run, vectors, vectors_len);
+    if (random_below(64) == 0)
+        run.sheet_len = (size_t)fuzz_claim();
+    return is_refusal(check_run_call(&run, vectors, vectors_len));
 }
 
-static uint64_t fuzz_one_call(void)
+/* One hash of each kind goes on from call to call, and is made up anew now and then. */
+static union hash *fuzz_hash(enum kind kind)
 {
-    switch (rng_below(&rng, 6)) {
+    static union hash hashes[KINDS];
+    if (random_below(4) == 0)
+        make_up_hash(kind, &hashes[kind]);
+    return &hashes[kind];
+}
+
+static bool fuzz_open(enum kind kind)
+{
+    uint32_t size = (uint32_t)fuzz_number(kind_sizes[kind][random_below(2)]);
+    return is_refusal(check_open_call(kind, fuzz_hash(kind), size));
+}
+
+/* A length is claimed only where the call refuses it. */
+static bool fuzz_feed(enum kind kind)
+{
+    union hash *hash = fuzz_hash(kind), copy = *hash;
+    size_t len = fuzz_message_len();
+    uint64_t claim = fuzz_claim();
+    random_pattern(bytes, len);
+    bool refused =
+        is_marked_refusal(kind == NARROW ? reference_feed_32(&copy.narrow, bytes, 0)
+                                         : reference_feed_64(&copy.wide, bytes, 0));
+    if (random_below(8) == 0 &&
+        (refused || claim > MOST_BYTES_FED - hash_total(kind, hash)))
+        len = (size_t)claim;
+    return is_marked_refusal(check_feed_call(kind, hash, bytes, len));
+}
+
+static bool fuzz_finish(enum kind kind)
+{
+    union hash *hash = fuzz_hash(kind);
+    size_t out_len = fuzz_out_len(kind_sizes[kind][random_below(2)] / 8);
+    return is_refusal(check_finish_call(kind, hash, out_len, NULL));
+}
+
+static bool fuzz_call(unsigned call)
+{
+    enum kind kind = call % 2 == 0 ? NARROW : WIDE;
+    switch (call) {
     case 0: return fuzz_operation(PRODUCT);
     case 1: return fuzz_operation(LEFT_DIVISION);
     case 2: return fuzz_operation(RIGHT_DIVISION);
     case 3: return fuzz_digest();
     case 4: return fuzz_run(FORWARD);
-    default: return fuzz_run(BACKWARD);
+    case 5: return fuzz_run(BACKWARD);
+    case 6:
+    case 7: return fuzz_open(kind);
+    case 8:
+    case 9: return fuzz_feed(kind);
+    default: return fuzz_finish(kind);
     }
-}
-
-static double now(void)
-{
-    struct timespec time;
-    timespec_get(&time, TIME_UTC);
-    return (double)time.tv_sec + 1e-9 * (double)time.tv_nsec;
 }
 
 int main(int argc, char **argv)
 {
-    double end = now() + (argc > 1 ? strtod(argv[1], NULL) : DEFAULT_SECONDS);
-    unsigned long long calls = 0, refusals = 0;
-    check_program("fuzz");
+    static const char *const names[CALLS] = {
+        "product",        "left division", "right division", "digest",
+        "forward run",    "backward run",  "narrow opening", "wide opening",
+        "narrow feeding", "wide feeding",  "narrow finish",  "wide finish",
+    };
+    unsigned long calls[CALLS] = {0}, refused[CALLS] = {0};
+    int argument = check_program("fuzz", argc, argv);
+    unsigned long rounds =
+        argument < argc ? strtoul(argv[argument], NULL, 10) : DEFAULT_ROUNDS;
     reference_init();
-    check_group("six calls with random arguments");
-    do {
-        for (unsigned i = 0; i < CALLS_BETWEEN_LOOKS; i++, calls++)
-            refusals += (unsigned)is_refusal(fuzz_one_call());
-    } while (now() < end);
-    printf("  %llu calls, of which %llu were refused\n", calls, refusals);
+    check_group("twelve calls with random arguments");
+    for (unsigned long round = 0; round < rounds; round++) {
+        unsigned call = (unsigned)random_below(CALLS);
+        calls[call]++;
+        refused[call] += fuzz_call(call);
+    }
+    for (unsigned i = 0; i < CALLS; i++)
+        printf("  %s: %lu calls, of which %lu were refused\n", names[i], calls[i],
+               refused[i]);
     return check_finish();
 }

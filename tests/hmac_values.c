@@ -1,7 +1,7 @@
 /*
- * hmac_values file: the HMAC values that document 001 prints in section 3.16, made by
+ * hmac_values [file]: the HMAC values that document 001 prints in section 3.16, made by
  * FIPS 198-1 from the archive's digest, and from the reference with either half of the
- * pipe as C0. The file's head gives its form.
+ * pipe as C0 and with the rotation amounts of rhash. The file's head gives its form.
  */
 #include <ctype.h>
 #include <stdbool.h>
@@ -12,6 +12,7 @@
 #include "edonr.h"
 #include "harness/check.h"
 #include "reference/digest.h"
+#include "reference/rows.h"
 
 enum { VECTORS = 16, MOST_KEY = 256, MOST_MESSAGE = 256, MOST_MAC = 64, MOST_LINE = 512 };
 
@@ -169,18 +170,17 @@ static unsigned count_reproduced(digest_call *digest, const struct vector *vecto
     return reproduced;
 }
 
-static uint64_t digest_second_half_first(uint32_t size, const uint8_t *message,
-                                         size_t message_len, uint8_t *out, size_t out_len)
-{
-    return reference_digest_in_order(C0_IS_SECOND_HALF, size, message, message_len, out,
-                                     out_len);
-}
-
 static uint64_t digest_first_half_first(uint32_t size, const uint8_t *message,
                                         size_t message_len, uint8_t *out, size_t out_len)
 {
-    return reference_digest_in_order(C0_IS_FIRST_HALF, size, message, message_len, out,
-                                     out_len);
+    static const struct variant variant = {C0_IS_FIRST_HALF, rotations_32, rotations_64};
+    return reference_digest_by(&variant, size, message, message_len, out, out_len);
+}
+
+static uint64_t digest_by_rhash_amounts(uint32_t size, const uint8_t *message,
+                                        size_t message_len, uint8_t *out, size_t out_len)
+{
+    return reference_digest_by(&rhash_variant, size, message, message_len, out, out_len);
 }
 
 static void check_file(const struct vector *vectors, size_t count)
@@ -197,24 +197,32 @@ static void check_file(const struct vector *vectors, size_t count)
     }
 }
 
+/* What the printed values decide: the order of the pipe's halves and the amounts. */
+static void check_readings(const struct vector *vectors, size_t count)
+{
+    unsigned second = count_reproduced(reference_digest, vectors, count);
+    unsigned first = count_reproduced(digest_first_half_first, vectors, count);
+    unsigned rhash = count_reproduced(digest_by_rhash_amounts, vectors, count);
+    check_group("printed values from the reference, by its readings");
+    printf("  C0 the second half of the pipe: %u of %zu\n", second, count);
+    printf("  C0 the first half of the pipe: %u of %zu\n", first, count);
+    printf("  C0 the second half, amounts of rhash: %u of %zu\n", rhash, count);
+    check(second == VECTORS, "C0 the second half: %u", second);
+    check(first == 0, "C0 the first half: %u", first);
+    check(rhash == 0, "amounts of rhash: %u", rhash);
+}
+
 int main(int argc, char **argv)
 {
     static struct vector vectors[VECTORS];
-    size_t count = read_vectors(argc > 1 ? argv[1] : "tests/vectors/hmac.txt", vectors);
-    check_program("hmac_values");
+    int argument = check_program("hmac_values", argc, argv);
+    const char *path = argument < argc ? argv[argument] : "tests/vectors/hmac.txt";
+    size_t count = read_vectors(path, vectors);
     check_file(vectors, count);
-
     check_group("printed values from the archive");
     for (size_t i = 0; i < count; i++)
         check(reproduces(edonr_digest, &vectors[i]), "case %zu, size %u", i,
               (unsigned)vectors[i].size);
-
-    unsigned second = count_reproduced(digest_second_half_first, vectors, count);
-    unsigned first = count_reproduced(digest_first_half_first, vectors, count);
-    check_group("printed values from the reference, by the order of the pipe's halves");
-    printf("  C0 the second half of the pipe: %u of %zu\n", second, count);
-    printf("  C0 the first half of the pipe: %u of %zu\n", first, count);
-    check(second == VECTORS, "C0 the second half: %u", second);
-    check(first == 0, "C0 the first half: %u", first);
+    check_readings(vectors, count);
     return check_finish();
 }

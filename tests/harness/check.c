@@ -1,7 +1,13 @@
+#define _POSIX_C_SOURCE 200809L
+
 #include "check.h"
 
 #include <stdarg.h>
 #include <stdio.h>
+#include <stdlib.h>
+#include <unistd.h>
+
+#include "random.h"
 
 enum { DESCRIBED_FAILURES = 5 };
 
@@ -10,6 +16,7 @@ struct count {
 };
 
 static const char *program;
+static bool ends_at_failure;
 static char group[80];
 static struct count in_group, in_all;
 
@@ -23,11 +30,20 @@ static void close_group(void)
     in_group = (struct count){0, 0};
 }
 
-void check_program(const char *name)
+int check_program(const char *name, int argc, char **argv)
 {
+    unsigned long long seed = 1;
+    for (int option; (option = getopt(argc, argv, "s:e")) != -1;) {
+        switch (option) {
+        case 's': seed = strtoull(optarg, NULL, 10); break;
+        case 'e': ends_at_failure = true; break;
+        default: exit(2);
+        }
+    }
     program = name;
-    group[0] = '\0';
-    in_group = in_all = (struct count){0, 0};
+    printf("%s, seed %llu\n", program, seed);
+    random_seed(seed);
+    return optind;
 }
 
 void check_group(const char *format, ...)
@@ -54,6 +70,8 @@ void check(bool passed, const char *format, ...)
     vfprintf(stderr, format, arguments);
     va_end(arguments);
     fputc('\n', stderr);
+    if (ends_at_failure)
+        exit(check_finish());
 }
 
 int check_finish(void)

@@ -6,8 +6,13 @@
 
 #include <stdbool.h>
 
-/* Opens the count of a program. */
-void check_program(const char *name);
+/*
+ * Opens the count of a program, reads its options and seeds its random data:
+ *   -s seed  the seed (1)
+ *   -e       the program ends at the first failure
+ * Gives the place of the first argument behind the options.
+ */
+int check_program(const char *name, int argc, char **argv);
 
 /* Opens a group; the group before is closed and its line printed. */
 void check_group(const char *format, ...) __attribute__((format(printf, 1, 2)));

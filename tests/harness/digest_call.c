@@ -8,17 +8,16 @@
 #include "check.h"
 #include "edonr.h"
 #include "lent.h"
-#include "rng.h"
+#include "random.h"
 
 static struct lent lent_message, out;
-static struct rng rng = {0x0B};
 
 static void place_buffers(const uint8_t *message, size_t message_len,
                           const uint8_t *out_before, size_t out_len)
 {
     if (out.area == NULL) {
-        lent_message = lent_area(DIGEST_CALL_MESSAGE);
-        out = lent_area(DIGEST_CALL_OUT);
+        lent_message = lent_area(DIGEST_CALL_MESSAGE, 1);
+        out = lent_area(DIGEST_CALL_OUT, 1);
     }
     lent_place(&lent_message, message, message_len);
     lent_place(&out, out_before, out_len);
@@ -28,7 +27,7 @@ uint64_t check_digest_call(uint32_t size, const uint8_t *message, size_t message
                            size_t out_len)
 {
     uint8_t before[DIGEST_CALL_OUT], after[DIGEST_CALL_OUT];
-    rng_fill(&rng, before, out_len);
+    random_fill(before, out_len);
     memcpy(after, before, out_len);
     place_buffers(message, message_len, before, out_len);
 

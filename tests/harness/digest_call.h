@@ -7,8 +7,9 @@
 #include <stddef.h>
 #include <stdint.h>
 
-/* The longest message and the longest output of a compared call. */
-enum { DIGEST_CALL_MESSAGE = 4 << 20, DIGEST_CALL_OUT = 512 };
+/* The longest message that is lent and the longest output. A longer message is only
+   claimed, for a call that refuses it. */
+enum { DIGEST_CALL_MESSAGE = 16 << 20, DIGEST_CALL_OUT = 512 };
 
 /* Counts one comparison: it passes if both give the same answer, the output holds the same
    bytes afterwards, message and guards stand, and so does all of the output that the

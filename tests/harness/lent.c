@@ -11,6 +11,8 @@
 
 enum { GUARD_BYTE = 0xC5, MOST_SHIFT = 63 };
 
+static bool empty_is_null;
+
 static void report_outside_access(int signal_number)
 {
     static const char text[] = "  failed: a call read or wrote outside its buffers\n";
@@ -19,7 +21,7 @@ static void report_outside_access(int signal_number)
     _exit(written < 0 ? 2 : 1);
 }
 
-struct lent lent_area(size_t capacity)
+struct lent lent_area(size_t capacity, size_t alignment)
 {
     size_t page = (size_t)sysconf(_SC_PAGESIZE);
     size_t needed = capacity + 2 * LENT_GUARD + MOST_SHIFT;
@@ -32,14 +34,20 @@ struct lent lent_area(size_t capacity)
         exit(2);
     }
     signal(SIGSEGV, report_outside_access);
-    return (struct lent){mapped + page, area_len, mapped + page, 0, 0};
+    return (struct lent){.area = mapped + page,
+                         .area_len = area_len,
+                         .capacity = capacity,
+                         .alignment = alignment};
 }
 
 static uint8_t *next_position(struct lent *lent, size_t len)
 {
     unsigned turn = lent->placed++;
     switch (turn % 3) {
-    case 0: return lent->area + LENT_GUARD + turn / 3 % (MOST_SHIFT + 1);
+    case 0: {
+        unsigned shift = turn / 3 % (MOST_SHIFT + 1);
+        return lent->area + LENT_GUARD + shift / lent->alignment * lent->alignment;
+    }
     case 1: return lent->area;
     default: return lent->area + lent->area_len - len;
     }
@@ -60,15 +68,21 @@ static size_t back_guard(const struct lent *lent)
 
 void lent_place(struct lent *lent, const uint8_t *content, size_t len)
 {
-    if (len + 2 * LENT_GUARD + MOST_SHIFT > lent->area_len) {
-        fprintf(stderr, "lent_place: %zu bytes do not fit\n", len);
-        exit(2);
+    lent->len = len <= lent->capacity ? len : 0;
+    lent->bytes = next_position(lent, lent->len);
+    if (len == 0 && (empty_is_null || lent->placed / 3 % 2 == 0)) {
+        lent->bytes = NULL;
+        return;
     }
-    lent->bytes = next_position(lent, len);
-    lent->len = len;
     memset(lent->bytes - front_guard(lent), GUARD_BYTE, front_guard(lent));
-    memset(lent->bytes + len, GUARD_BYTE, back_guard(lent));
-    memcpy(lent->bytes, content, len);
+    memset(lent->bytes + lent->len, GUARD_BYTE, back_guard(lent));
+    if (lent->len > 0)
+        memcpy(lent->bytes, content, lent->len);
+}
+
+void lent_empty_is_null(bool always)
+{
+    empty_is_null = always;
 }
 
 static bool all_guard_bytes(const uint8_t *bytes, size_t len)
@@ -81,7 +95,9 @@ static bool all_guard_bytes(const uint8_t *bytes, size_t len)
 
 bool lent_holds(const struct lent *lent, const uint8_t *content)
 {
+    if (lent->bytes == NULL)
+        return lent->len == 0;
     return all_guard_bytes(lent->bytes - front_guard(lent), front_guard(lent)) &&
            all_guard_bytes(lent->bytes + lent->len, back_guard(lent)) &&
-           memcmp(lent->bytes, content, lent->len) == 0;
+           (lent->len == 0 || memcmp(lent->bytes, content, lent->len) == 0);
 }

@@ -8,7 +8,7 @@
 #include "check.h"
 #include "edonr.h"
 #include "lent.h"
-#include "rng.h"
+#include "random.h"
 
 const struct operation operations[OPERATIONS] = {
     [PRODUCT] = {"product", edonr_product, reference_product},
@@ -17,14 +17,13 @@ const struct operation operations[OPERATIONS] = {
 };
 
 static struct lent first, second, out;
-static struct rng rng = {0x0A};
 
 static void place_buffers(const struct product_call *call, const uint8_t *out_before)
 {
     if (out.area == NULL) {
-        first = lent_area(PRODUCT_CALL_CAPACITY);
-        second = lent_area(PRODUCT_CALL_CAPACITY);
-        out = lent_area(PRODUCT_CALL_CAPACITY);
+        first = lent_area(PRODUCT_CALL_CAPACITY, 1);
+        second = lent_area(PRODUCT_CALL_CAPACITY, 1);
+        out = lent_area(PRODUCT_CALL_CAPACITY, 1);
     }
     lent_place(&first, call->first, call->first_len);
     lent_place(&second, call->second, call->second_len);
@@ -34,15 +33,16 @@ static void place_buffers(const struct product_call *call, const uint8_t *out_be
 uint64_t check_product_call(const struct product_call *call)
 {
     uint8_t before[PRODUCT_CALL_CAPACITY], after[PRODUCT_CALL_CAPACITY];
-    rng_fill(&rng, before, call->out_len);
+    random_fill(before, call->out_len);
     memcpy(after, before, call->out_len);
     place_buffers(call, before);
 
     uint64_t want =
         call->operation->reference(call->width, call->first, call->first_len, call->second,
                                    call->second_len, after, call->out_len);
-    uint64_t got = call->operation->archive(call->width, first.bytes, first.len,
-                                            second.bytes, second.len, out.bytes, out.len);
+    uint64_t got =
+        call->operation->archive(call->width, first.bytes, call->first_len, second.bytes,
+                                 call->second_len, out.bytes, call->out_len);
 
     size_t written = is_refusal(want) ? 0 : (size_t)want;
     bool frame = memcmp(after + written, before + written, call->out_len - written) == 0;

@@ -21,9 +21,10 @@ enum { PRODUCT, LEFT_DIVISION, RIGHT_DIVISION, OPERATIONS };
 
 extern const struct operation operations[OPERATIONS];
 
-/* The longest operand or output of a compared call. */
+/* The longest operand that is lent and the longest output. */
 enum { PRODUCT_CALL_CAPACITY = 512 };
 
+/* A longer operand is only claimed; no call accepts it. */
 struct product_call {
     const struct operation *operation;
     uint32_t width;

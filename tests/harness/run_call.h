@@ -15,7 +15,8 @@ typedef uint64_t run_function(uint32_t width, uint8_t *vectors, size_t vectors_l
 extern run_function *const archive_runs[DIRECTIONS];
 extern run_function *const reference_runs[DIRECTIONS];
 
-/* The most lent bytes and the longest sheet of a compared run. */
+/* The most vectors and the longest sheet that are lent, in bytes. What is longer is only
+   claimed; no run accepts it. */
 enum { RUN_CALL_VECTORS = 1024, RUN_CALL_SHEET = 8192 };
 
 struct run {

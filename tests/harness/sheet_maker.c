@@ -1,5 +1,9 @@
 #include "sheet_maker.h"
 
+#include <stdbool.h>
+
+#include "random.h"
+
 enum { LAST_OF_TWO_PLACES = 5, FLIP = 6, LAST_CODE = 8, PLACES = 4 };
 
 static size_t command_len(uint32_t width, unsigned code)
@@ -10,67 +14,94 @@ static size_t command_len(uint32_t width, unsigned code)
 }
 
 /* A code whose command leaves room that other commands can fill: anything but one byte. */
-static unsigned fitting_code(struct rng *rng, uint32_t width, size_t room)
+static unsigned fitting_code(uint32_t width, size_t room)
 {
     for (;;) {
-        unsigned code = 1 + (unsigned)rng_below(rng, LAST_CODE);
+        unsigned code = 1 + (unsigned)random_below(LAST_CODE);
         size_t len = command_len(width, code);
         if (len <= room && room - len != 1)
             return code;
     }
 }
 
-void make_sheet(struct rng *rng, uint32_t width, size_t len, struct sheet *sheet)
+/* A command of this code with random places and K. */
+static void add_command(uint32_t width, unsigned code, struct sheet *sheet)
+{
+    uint8_t *command = sheet->bytes + sheet->len;
+    sheet->offsets[sheet->count++] = sheet->len;
+    sheet->len += command_len(width, code);
+    command[0] = (uint8_t)code;
+    command[1] = (uint8_t)random_below(PLACES);
+    if (code <= LAST_OF_TWO_PLACES)
+        command[2] = (uint8_t)((command[1] + 1 + random_below(PLACES - 1)) % PLACES);
+    if (code > FLIP)
+        random_pattern(command + 2, width);
+}
+
+void make_sheet(uint32_t width, size_t len, struct sheet *sheet)
 {
     sheet->len = sheet->count = 0;
-    while (sheet->len < len) {
-        unsigned code = fitting_code(rng, width, len - sheet->len);
-        uint8_t *command = sheet->bytes + sheet->len;
-        sheet->offsets[sheet->count++] = sheet->len;
-        sheet->len += command_len(width, code);
-        rng_fill(rng, command, command_len(width, code));
-        command[0] = (uint8_t)code;
-        command[1] %= PLACES;
-        if (code <= LAST_OF_TWO_PLACES)
-            command[2] = (uint8_t)((command[1] + 1 + command[2] % (PLACES - 1)) % PLACES);
+    while (sheet->len < len)
+        add_command(width, fitting_code(width, len - sheet->len), sheet);
+}
+
+/* Whether so many commands can take exactly so many bytes: with some that have a K, the
+   others take two or three bytes each. */
+static bool can_fill(uint32_t width, size_t count, size_t len)
+{
+    for (size_t keyed = 0; keyed <= count && 2 * count + keyed * width <= len; keyed++)
+        if (len <= 3 * count + keyed * (width - 1))
+            return true;
+    return false;
+}
+
+void make_counted_sheet(uint32_t width, size_t count, size_t len, struct sheet *sheet)
+{
+    sheet->len = sheet->count = 0;
+    while (sheet->count < count) {
+        unsigned code = 1 + (unsigned)random_below(LAST_CODE);
+        size_t left = count - sheet->count - 1;
+        size_t end = sheet->len + command_len(width, code);
+        if (end <= len && can_fill(width, left, len - end))
+            add_command(width, code, sheet);
     }
 }
 
-static uint8_t *random_command(struct rng *rng, struct sheet *sheet)
+static uint8_t *random_command(struct sheet *sheet)
 {
-    return sheet->bytes + sheet->offsets[rng_below(rng, sheet->count)];
+    return sheet->bytes + sheet->offsets[random_below(sheet->count)];
 }
 
-static void append_bytes(struct rng *rng, struct sheet *sheet)
+static void append_bytes(struct sheet *sheet)
 {
-    size_t more = 1 + (size_t)rng_below(rng, SHEET_MOST_APPENDED);
-    rng_fill(rng, sheet->bytes + sheet->len, more);
+    size_t more = 1 + (size_t)random_below(SHEET_MOST_APPENDED);
+    random_fill(sheet->bytes + sheet->len, more);
     sheet->len += more;
 }
 
-static void change_byte(struct rng *rng, struct sheet *sheet)
+static void change_byte(struct sheet *sheet)
 {
-    uint64_t at = rng_below(rng, sheet->len);
-    sheet->bytes[at] = (uint8_t)rng_next(rng);
+    uint64_t at = random_below(sheet->len);
+    sheet->bytes[at] = (uint8_t)random_word();
 }
 
-static void spoil_place(struct rng *rng, uint8_t *command)
+static void corrupt_place(uint8_t *command)
 {
-    unsigned which = command[0] <= LAST_OF_TWO_PLACES ? 1 + (unsigned)rng_below(rng, 2) : 1;
-    command[which] = (uint8_t)(PLACES + rng_below(rng, 256 - PLACES));
+    unsigned which = command[0] <= LAST_OF_TWO_PLACES ? 1 + (unsigned)random_below(2) : 1;
+    command[which] = (uint8_t)(PLACES + random_below(256 - PLACES));
 }
 
-static void spoil_code(struct rng *rng, uint8_t *command)
+static void corrupt_code(uint8_t *command)
 {
-    uint64_t chosen = rng_below(rng, 256 - LAST_CODE);
+    uint64_t chosen = random_below(256 - LAST_CODE);
     command[0] = (uint8_t)(chosen == 0 ? 0 : LAST_CODE + chosen);
 }
 
 /* Gives a command of two places the same place twice, if a few tries find one. */
-static void equal_places(struct rng *rng, struct sheet *sheet)
+static void equal_places(struct sheet *sheet)
 {
     for (unsigned i = 0; i < 8; i++) {
-        uint8_t *command = random_command(rng, sheet);
+        uint8_t *command = random_command(sheet);
         if (command[0] <= LAST_OF_TWO_PLACES) {
             command[2] = command[1];
             return;
@@ -78,15 +109,15 @@ static void equal_places(struct rng *rng, struct sheet *sheet)
     }
 }
 
-void damage_sheet(struct rng *rng, struct sheet *sheet)
+void damage_sheet(struct sheet *sheet)
 {
-    uint64_t kind = sheet->count == 0 ? 0 : rng_below(rng, 6);
+    uint64_t kind = sheet->count == 0 ? 0 : random_below(6);
     switch (kind) {
-    case 0: append_bytes(rng, sheet); break;
-    case 1: change_byte(rng, sheet); break;
-    case 2: sheet->len = (size_t)rng_below(rng, sheet->len); break;
-    case 3: spoil_place(rng, random_command(rng, sheet)); break;
-    case 4: equal_places(rng, sheet); break;
-    default: spoil_code(rng, random_command(rng, sheet));
+    case 0: append_bytes(sheet); break;
+    case 1: change_byte(sheet); break;
+    case 2: sheet->len = (size_t)random_below(sheet->len); break;
+    case 3: corrupt_place(random_command(sheet)); break;
+    case 4: equal_places(sheet); break;
+    default: corrupt_code(random_command(sheet));
     }
 }

@@ -7,8 +7,6 @@
 #include <stddef.h>
 #include <stdint.h>
 
-#include "rng.h"
-
 enum { SHEET_MOST_BYTES = 4096, SHEET_MOST_APPENDED = 64 };
 
 struct sheet {
@@ -20,9 +18,13 @@ struct sheet {
 
 /* A sheet of exactly len bytes that a run at this width accepts. No command takes one
    byte, so len is not 1; it is at most SHEET_MOST_BYTES. */
-void make_sheet(struct rng *rng, uint32_t width, size_t len, struct sheet *sheet);
+void make_sheet(uint32_t width, size_t len, struct sheet *sheet);
+
+/* The same with exactly count commands; len is one that so many can fill, as any from two
+   to three bytes a command. */
+void make_counted_sheet(uint32_t width, size_t count, size_t len, struct sheet *sheet);
 
 /* One random damage; some damages leave another sheet that is accepted. */
-void damage_sheet(struct rng *rng, struct sheet *sheet);
+void damage_sheet(struct sheet *sheet);
 
 #endif

@@ -1,6 +1,7 @@
 /*
  * Answers as the C calls give them: a success's own number, or 2^32 times the refusal
- * number plus the offset. The numbers are written here again, and not taken from the
+ * number plus the offset. A feeding's success can be past 2^32, so its refusals are
+ * marked by bit 63 as well. The numbers are written here again, and not taken from the
  * kit's header, so that a wrong number there is found.
  */
 #ifndef REFERENCE_ANSWER_H
@@ -10,6 +11,7 @@
 
 enum refusal {
     BAD_SIZE = 1,
+    BAD_STATE = 2,
     MESSAGE_TOO_LONG = 3,
     OUTPUT_TOO_SHORT = 4,
     BAD_WIDTH = 5,
@@ -21,6 +23,9 @@ enum refusal {
     SAME_PLACE = 11
 };
 
+/* The most bytes of one message. */
+#define MOST_BYTES_FED (((uint64_t)1 << 61) - 1)
+
 static inline uint64_t refuse(enum refusal refusal, uint64_t offset)
 {
     return ((uint64_t)refusal << 32) + offset;
@@ -29,6 +34,16 @@ static inline uint64_t refuse(enum refusal refusal, uint64_t offset)
 static inline int is_refusal(uint64_t answer)
 {
     return answer >> 32 != 0;
+}
+
+static inline uint64_t refuse_marked(enum refusal refusal)
+{
+    return ((uint64_t)1 << 63) + refuse(refusal, 0);
+}
+
+static inline int is_marked_refusal(uint64_t answer)
+{
+    return answer >> 63 != 0;
 }
 
 #endif

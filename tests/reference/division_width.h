@@ -101,7 +101,7 @@ static void AT_WIDTH(other_half)(const WORD product[8], const WORD known[8], WOR
 void AT_WIDTH(reference_divide_left)(const WORD a[8], const WORD b[8], WORD x[8])
 {
     WORD known[8], other[8];
-    AT_WIDTH(left_half)(a, known);
+    AT_WIDTH(left_half)(AT_WIDTH(rotations), a, known);
     AT_WIDTH(other_half)(b, known, other);
     AT_WIDTH(undo_half)(RIGHT, other, x);
 }
@@ -109,7 +109,7 @@ void AT_WIDTH(reference_divide_left)(const WORD a[8], const WORD b[8], WORD x[8]
 void AT_WIDTH(reference_divide_right)(const WORD b[8], const WORD a[8], WORD y[8])
 {
     WORD known[8], other[8];
-    AT_WIDTH(right_half)(a, known);
+    AT_WIDTH(right_half)(AT_WIDTH(rotations), a, known);
     AT_WIDTH(other_half)(b, known, other);
     AT_WIDTH(undo_half)(LEFT, other, y);
 }

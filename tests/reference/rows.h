@@ -41,6 +41,7 @@ RIGHT_ROWS(ROW_IS_A_SPLIT)
 
 enum half { LEFT, RIGHT };
 
+/* What sum i of each half is rotated by. */
 static const unsigned rotations_32[2][8] = {
     {0, 4, 8, 13, 17, 22, 24, 29},
     {0, 5, 9, 11, 15, 20, 25, 27},

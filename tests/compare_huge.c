@@ -1,0 +1,200 @@
+/*
+ * Messages past 2^29 and 2^32 bytes against the reference, in one call and in pieces, and
+ * outputs of more than 2^32 bytes. At 2^29 bytes the length in bits passes 32 bits, at
+ * 2^32 the length in bytes does.
+ *
+ * The message is a megabyte of random bytes that is mapped again and again, so it takes
+ * no more memory than that. The period is no power of two, and so a place in the message
+ * that is cut off at 32 bits has other bytes. The reference hashes the message once a
+ * size, and is finished at each mark.
+ */
+#define _DEFAULT_SOURCE
+
+#include <inttypes.h>
+#include <stdbool.h>
+#include <stdio.h>
+#include <stdlib.h>
+#include <string.h>
+#include <sys/mman.h>
+#include <unistd.h>
+
+#include "edonr.h"
+#include "harness/check.h"
+#include "harness/hash_call.h"
+#include "harness/lent.h"
+#include "harness/product_call.h"
+#include "harness/random.h"
+#include "reference/digest.h"
+#include "reference/division.h"
+#include "reference/hash.h"
+
+#define AT_29 ((uint64_t)1 << 29)
+#define AT_32 ((uint64_t)1 << 32)
+
+enum { MARKS = 5, PERIOD_PAGES = 257, MOST_OUT = 80, SEEN_OUT = 4096 };
+
+static uint64_t marks[MARKS];
+static const uint8_t *message;
+static struct lent out;
+
+static void stop_unless(bool done)
+{
+    if (done)
+        return;
+    perror("compare_huge");
+    exit(2);
+}
+
+/* Around 2^29, at random below it, and so that the last piece has over 2^32 bytes. */
+static void choose_marks(void)
+{
+    marks[0] = AT_29 / 32 + random_below(AT_29 / 2);
+    marks[1] = AT_29 - 1;
+    marks[2] = AT_29;
+    marks[3] = AT_29 + 3;
+    marks[4] = AT_29 + AT_32 + 4 + random_below(300);
+}
+
+/* A file of one period, that has no name. */
+static FILE *period_file(size_t period)
+{
+    uint8_t *bytes = malloc(period);
+    FILE *file = tmpfile();
+    stop_unless(bytes != NULL && file != NULL);
+    random_fill(bytes, period);
+    stop_unless(fwrite(bytes, 1, period, file) == period && fflush(file) == 0);
+    free(bytes);
+    return file;
+}
+
+static const uint8_t *map_message(size_t len)
+{
+    size_t period = PERIOD_PAGES * (size_t)sysconf(_SC_PAGESIZE);
+    size_t whole = (len + period - 1) / period * period;
+    FILE *file = period_file(period);
+    uint8_t *mapped =
+        mmap(NULL, whole, PROT_NONE, MAP_PRIVATE | MAP_ANONYMOUS | MAP_NORESERVE, -1, 0);
+    stop_unless(mapped != MAP_FAILED);
+    for (size_t at = 0; at < whole; at += period)
+        stop_unless(mmap(mapped + at, period, PROT_READ, MAP_PRIVATE | MAP_FIXED,
+                         fileno(file), 0) != MAP_FAILED);
+    fclose(file);
+    return mapped;
+}
+
+/* The archive's digest in one call; digest is the reference's. */
+static void check_one_call(uint32_t size, size_t len, const uint8_t digest[64])
+{
+    uint8_t after[MOST_OUT];
+    random_fill(after, sizeof after);
+    lent_place(&out, after, sizeof after);
+    memcpy(after, digest, size / 8);
+    uint64_t got = edonr_digest(size, message, len, out.bytes, sizeof after);
+    check(got == size / 8 && lent_holds(&out, after),
+          "size %" PRIu32 ", %zu bytes in one call: answered %" PRIx64, size, len, got);
+}
+
+/* Fed from mark to mark, from one of them on, with the digests of both ways at each. */
+static void compare_size(enum kind kind, uint32_t size, unsigned first)
+{
+    union hash hash;
+    uint8_t digest[64];
+    uint64_t fed = 0;
+    check_group("messages of up to %" PRIu64 " bytes, size %" PRIu32, marks[MARKS - 1],
+                size);
+    random_fill((uint8_t *)&hash, sizeof hash);
+    check_open_call(kind, &hash, size);
+    for (unsigned i = first; i < MARKS; i++) {
+        check_feed_in_place(kind, &hash, message + fed, (size_t)(marks[i] - fed));
+        check_finish_call(kind, &hash, sizeof digest, NULL);
+        if (kind == NARROW)
+            reference_finish_32(&hash.narrow, digest, sizeof digest);
+        else
+            reference_finish_64(&hash.wide, digest, sizeof digest);
+        check_one_call(size, (size_t)marks[i], digest);
+        fed = marks[i];
+    }
+}
+
+/* ---------------- outputs ---------------- */
+
+static uint8_t *huge_out;
+static uint8_t want_out[SEEN_OUT];
+
+/* Of an output of over 2^32 bytes the front is looked at; the rest is never touched. Cut
+   off at 32 bits its length would be too short for any call. */
+static size_t prepare_out(void)
+{
+    random_fill(want_out, sizeof want_out);
+    memcpy(huge_out, want_out, sizeof want_out);
+    return (size_t)(AT_32 + random_below(28));
+}
+
+static void check_out(const char *name, unsigned number, uint64_t got, uint64_t want)
+{
+    check(got == want && memcmp(huge_out, want_out, sizeof want_out) == 0,
+          "%s, %u: answered %" PRIx64 ", expected %" PRIx64, name, number, got, want);
+}
+
+static void compare_operation(const struct operation *operation, uint32_t width)
+{
+    size_t len = prepare_out();
+    uint64_t want =
+        operation->reference(width, message, width, message + 64, width, want_out, len);
+    uint64_t got =
+        operation->archive(width, message, width, message + 64, width, huge_out, len);
+    check_out(operation->name, width, got, want);
+}
+
+static void compare_digest(uint32_t size)
+{
+    size_t len = prepare_out();
+    uint64_t want = reference_digest(size, message, 100, want_out, len);
+    uint64_t got = edonr_digest(size, message, 100, huge_out, len);
+    check_out("digest", size, got, want);
+}
+
+static void compare_finish(enum kind kind, uint32_t size)
+{
+    union hash hash;
+    random_fill((uint8_t *)&hash, sizeof hash);
+    set_hash(kind, &hash, size, random_bits(61));
+    size_t len = prepare_out();
+    const void *lent = &hash;
+    uint64_t want = kind == NARROW ? reference_finish_32(&hash.narrow, want_out, len)
+                                   : reference_finish_64(&hash.wide, want_out, len);
+    uint64_t got = kind == NARROW ? edonr_narrow_finish(lent, huge_out, len)
+                                  : edonr_wide_finish(lent, huge_out, len);
+    check_out("finishing", size, got, want);
+}
+
+static void compare_outputs(void)
+{
+    check_group("outputs of over 2^32 bytes");
+    huge_out = mmap(NULL, (size_t)(AT_32 + SEEN_OUT), PROT_READ | PROT_WRITE,
+                    MAP_PRIVATE | MAP_ANONYMOUS | MAP_NORESERVE, -1, 0);
+    stop_unless(huge_out != MAP_FAILED);
+    for (unsigned i = 0; i < OPERATIONS; i++) {
+        compare_operation(&operations[i], 32);
+        compare_operation(&operations[i], 64);
+    }
+    for (unsigned i = 0; i < 4; i++) {
+        compare_digest(kind_sizes[i / 2][i % 2]);
+        compare_finish((enum kind)(i / 2), kind_sizes[i / 2][i % 2]);
+    }
+}
+
+int main(int argc, char **argv)
+{
+    check_program("compare_huge", argc, argv);
+    reference_init();
+    choose_marks();
+    message = map_message((size_t)marks[MARKS - 1]);
+    out = lent_area(MOST_OUT, 1);
+    compare_outputs();
+    compare_size(WIDE, 512, 0);
+    compare_size(WIDE, 384, MARKS - 2);
+    compare_size(NARROW, 256, 0);
+    compare_size(NARROW, 224, MARKS - 2);
+    return check_finish();
+}

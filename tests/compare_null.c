@@ -1,0 +1,135 @@
+/*
+ * A null pointer with length 0, at every slice argument of every call, alone and together
+ * with others, against the reference.
+ */
+#include <stddef.h>
+
+#include "edonr.h"
+#include "harness/check.h"
+#include "harness/digest_call.h"
+#include "harness/hash_call.h"
+#include "harness/lent.h"
+#include "harness/product_call.h"
+#include "harness/random.h"
+#include "harness/run_call.h"
+#include "reference/answer.h"
+#include "reference/division.h"
+
+static const uint32_t widths[] = {32, 64, 0, 33};
+static const uint32_t sizes[] = {224, 256, 384, 512, 0, 225};
+static uint8_t bytes[512];
+
+/* The slices of a call by a number's bits: a bit that is set makes its slice empty, and an
+   empty slice is lent as a null pointer. */
+static size_t slice_len(unsigned number, unsigned bit, size_t len)
+{
+    return number >> bit & 1 ? 0 : len;
+}
+
+/* Operands and output: refused by 5, by 6, or by 4. */
+static void compare_products(void)
+{
+    check_group("product and divisions");
+    for (unsigned n = 0; n < 4 * OPERATIONS * 8; n++) {
+        uint32_t width = widths[n % 4];
+        size_t first_len = slice_len(n / 4 / OPERATIONS, 0, width);
+        size_t second_len = slice_len(n / 4 / OPERATIONS, 1, width);
+        size_t out_len = slice_len(n / 4 / OPERATIONS, 2, 64);
+        struct product_call call = {&operations[n / 4 % OPERATIONS],
+                                    width,
+                                    bytes,
+                                    first_len,
+                                    bytes,
+                                    second_len,
+                                    out_len};
+        check_product_call(&call);
+    }
+}
+
+static void compare_digests(void)
+{
+    check_group("digest");
+    for (unsigned n = 0; n < 6 * 4; n++) {
+        size_t message_len = slice_len(n / 6, 0, 100);
+        check_digest_call(sizes[n % 6], bytes, message_len, slice_len(n / 6, 1, 64));
+    }
+}
+
+/* A run without vectors is refused; one without a sheet does nothing, and answers 0. */
+static void compare_runs(void)
+{
+    static const uint8_t flips[4] = {6, 0, 6, 1};
+    uint8_t vectors[256];
+    check_group("runs");
+    for (unsigned n = 0; n < 4 * DIRECTIONS * 4; n++) {
+        uint32_t width = widths[n % 4];
+        size_t vectors_len = slice_len(n / 4 / DIRECTIONS, 0, width == 64 ? 256 : 128);
+        size_t sheet_len = slice_len(n / 4 / DIRECTIONS, 1, sizeof flips);
+        struct run run = {(enum direction)(n / 4 % DIRECTIONS), width, flips, sheet_len};
+        random_fill(vectors, sizeof vectors);
+        check_run_call(&run, vectors, vectors_len);
+    }
+}
+
+/* From an opened state and from made-up ones, in form and not. */
+static void compare_pieces(enum kind kind)
+{
+    static const uint64_t totals[] = {0, 1, 63, 64, MOST_BYTES_FED, MOST_BYTES_FED + 1};
+    union hash hash;
+    check_group("hashing in pieces, %s", kind_names[kind]);
+    for (unsigned n = 0; n < 6 * 6; n++) {
+        random_fill((uint8_t *)&hash, sizeof hash);
+        check_open_call(kind, &hash, sizes[n % 6]);
+        check_feed_call(kind, &hash, bytes, 0);
+        check_finish_call(kind, &hash, 0, NULL);
+        set_hash(kind, &hash, sizes[n % 6], totals[n / 6]);
+        check_feed_call(kind, &hash, bytes, 0);
+        check_finish_call(kind, &hash, 0, NULL);
+        check_finish_call(kind, &hash, 64, NULL);
+    }
+}
+
+#define REFUSED(number) ((uint64_t)(number) << 32)
+
+/* The same as numbers, without the reference. */
+static void check_points(void)
+{
+    uint8_t v[32] = {0}, vectors[128] = {0}, out[64];
+    struct edonr_narrow narrow;
+    struct edonr_wide wide;
+    check_group("answers as numbers");
+    for (unsigned i = 0; i < OPERATIONS; i++) {
+        operation_call *call = operations[i].archive;
+        check(call(32, NULL, 0, v, 32, out, 64) == REFUSED(6), "no first operand");
+        check(call(32, v, 32, NULL, 0, out, 64) == REFUSED(6), "no second operand");
+        check(call(32, v, 32, v, 32, NULL, 0) == REFUSED(4), "no output");
+    }
+    check(edonr_digest(256, NULL, 0, out, 64) == 32, "digest of no message");
+    check(edonr_digest(512, v, 32, NULL, 0) == REFUSED(4), "digest without output");
+    for (unsigned i = 0; i < DIRECTIONS; i++) {
+        run_function *run = archive_runs[i];
+        check(run(32, NULL, 0, v, 2) == REFUSED(6), "a run without vectors");
+        check(run(32, vectors, 128, NULL, 0) == 0, "a run without a sheet");
+    }
+    check(edonr_narrow_open(&narrow, 256) == 0 && edonr_wide_open(&wide, 512) == 0,
+          "openings");
+    check(edonr_narrow_feed(&narrow, NULL, 0) == 0, "narrow, fed nothing");
+    check(edonr_wide_feed(&wide, NULL, 0) == 0, "wide, fed nothing");
+    check(edonr_narrow_finish(&narrow, NULL, 0) == REFUSED(4), "narrow, no output");
+    check(edonr_wide_finish(&wide, NULL, 0) == REFUSED(4), "wide, no output");
+}
+
+int main(int argc, char **argv)
+{
+    check_program("compare_null", argc, argv);
+    reference_init();
+    random_fill(bytes, sizeof bytes);
+    lent_empty_is_null(true);
+    compare_products();
+    compare_digests();
+    compare_runs();
+    for (enum kind kind = NARROW; kind < KINDS; kind++)
+        compare_pieces(kind);
+    check_points();
+    return check_finish();
+}

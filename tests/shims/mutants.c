@@ -1,0 +1,259 @@
+/*
+ * Wrong archives: each call passes on to the archive's own, but for what the chosen mutant
+ * does wrong. To be compiled with -DMUTANT=name, a name of the list below, and linked with
+ * --wrap of all twelve calls, so that the comparisons meet it in the archive's place.
+ */
+#include <stdbool.h>
+#include <string.h>
+
+#include "edonr.h"
+
+enum mutant {
+    none,
+    product_of_high_bits,
+    product_of_some,
+    product_writes_behind,
+    product_refusals_exchanged,
+    operand_length_by_32_bits,
+    output_length_by_32_bits,
+    left_division_is_right,
+    right_division_is_left,
+    digest_from_4_mib,
+    digest_from_2_29,
+    digest_index_by_32_bits,
+    digest_writes_behind,
+    digest_without_pointer,
+    digest_of_another_size,
+    run_of_2048_idles,
+    run_of_600,
+    run_backward_of_1365_idles,
+    run_offset_by_11_bits,
+    run_refused_writes,
+    run_places_refused_alike,
+    sheet_length_by_32_bits,
+    open_refused_writes,
+    open_keeps_waiting,
+    feed_refused_writes,
+    feed_writes_behind,
+    feed_over_4_kib,
+    feed_past_1200,
+    feed_from_2_29,
+    feed_from_2_32,
+    feed_of_made_up,
+    feed_index_by_32_bits,
+    feed_unmarked,
+    feed_refusals_exchanged,
+    feed_without_pointer,
+    size_by_32_bits,
+    finish_changes_hash,
+    finish_writes_behind,
+    finish_total_by_32_bits,
+    finish_marked
+};
+
+#define IS(name) (MUTANT == (name))
+
+/* The linker's names: calls come to the one and go on to the other. */
+#define WRAP(name) __wrap_edonr_##name
+#define REAL(name) __real_edonr_##name
+
+#define AT(power) ((uint64_t)1 << (power))
+
+static bool succeeds(uint64_t answer)
+{
+    return edonr_refusal(answer) == 0;
+}
+
+/* ---------------- product and divisions ---------------- */
+
+#define OPERATION(name)                                                                    \
+    uint64_t name(uint32_t width, const uint8_t *first, size_t first_len,                  \
+                  const uint8_t *second, size_t second_len, uint8_t *out, size_t out_len)
+#define OPERANDS width, first, first_len, second, second_len, out, out_len
+
+OPERATION(REAL(product));
+OPERATION(REAL(left_division));
+OPERATION(REAL(right_division));
+
+OPERATION(WRAP(product))
+{
+    if (IS(operand_length_by_32_bits))
+        first_len = (uint32_t)first_len;
+    if (IS(output_length_by_32_bits))
+        out_len = (uint32_t)out_len;
+    uint64_t answer = REAL(product)(OPERANDS);
+    if (IS(product_refusals_exchanged) && edonr_refusal(answer) == EDONR_REFUSED_LENGTH &&
+        out_len < width)
+        return edonr_refused(EDONR_REFUSED_OUTPUT, 0);
+    if (!succeeds(answer))
+        return answer;
+    if (IS(product_of_high_bits) && width == 64 && (first[63] & second[7] & 0x80))
+        out[0] ^= 1;
+    if (IS(product_of_some) && first[5] == 0x5A && (second[9] & 0x1F) == 3)
+        out[width - 1] ^= 0x80;
+    if (IS(product_writes_behind) && out_len > width)
+        out[width] = 0;
+    return answer;
+}
+
+OPERATION(WRAP(left_division))
+{
+    if (IS(left_division_is_right))
+        return REAL(right_division)(width, second, second_len, first, first_len, out,
+                                    out_len);
+    return REAL(left_division)(OPERANDS);
+}
+
+OPERATION(WRAP(right_division))
+{
+    if (IS(right_division_is_left))
+        return REAL(left_division)(width, second, second_len, first, first_len, out,
+                                   out_len);
+    return REAL(right_division)(OPERANDS);
+}
+
+/* ---------------- runs ---------------- */
+
+#define RUN(name)                                                                          \
+    uint64_t name(uint32_t width, uint8_t *vectors, size_t vectors_len,                    \
+                  const uint8_t *sheet, size_t sheet_len)
+
+RUN(REAL(run_forward));
+RUN(REAL(run_backward));
+
+typedef RUN(run_function);
+
+/* Where command number count begins, in a sheet that is sound. */
+static size_t offset_of(uint32_t width, const uint8_t *sheet, size_t count)
+{
+    size_t at = 0;
+    for (; count > 0; count--)
+        at += sheet[at] <= 5 ? 3 : sheet[at] == 6 ? 2 : 2 + (size_t)width;
+    return at;
+}
+
+/* What a run would answer, with nothing done. */
+static uint64_t answer_of(run_function *real, uint32_t width, size_t vectors_len,
+                          const uint8_t *sheet, size_t sheet_len)
+{
+    uint8_t unused[256] = {0};
+    return real(width, unused, vectors_len, sheet, sheet_len);
+}
+
+static bool idles(bool backward, uint64_t answer)
+{
+    return (IS(run_of_2048_idles) && answer == 2048) ||
+           (IS(run_backward_of_1365_idles) && backward && answer == 1365);
+}
+
+static uint64_t other_refusal(uint64_t answer)
+{
+    uint32_t refusal = edonr_refusal(answer), offset = edonr_offset(answer);
+    if (IS(run_offset_by_11_bits))
+        offset &= 0x7FF;
+    if (IS(run_places_refused_alike) && refusal == EDONR_REFUSED_SAME_PLACE)
+        refusal = EDONR_REFUSED_PLACE;
+    return edonr_refused(refusal, offset);
+}
+
+static uint64_t run(run_function *real, bool backward, uint32_t width, uint8_t *vectors,
+                    size_t vectors_len, const uint8_t *sheet, size_t sheet_len)
+{
+    if (IS(sheet_length_by_32_bits))
+        sheet_len = (uint32_t)sheet_len;
+    uint64_t answer = answer_of(real, width, vectors_len, sheet, sheet_len);
+    if (!succeeds(answer)) {
+        if (IS(run_refused_writes) && edonr_offset(answer) > 0)
+            vectors[0] ^= 1;
+        return other_refusal(answer);
+    }
+    if (idles(backward, answer))
+        return answer;
+    if (IS(run_of_600) && answer > 600)
+        sheet_len = offset_of(width, sheet, 600);
+    real(width, vectors, vectors_len, sheet, sheet_len);
+    return answer;
+}
+
+RUN(WRAP(run_forward))
+{
+    return run(REAL(run_forward), false, width, vectors, vectors_len, sheet, sheet_len);
+}
+
+RUN(WRAP(run_backward))
+{
+    return run(REAL(run_backward), true, width, vectors, vectors_len, sheet, sheet_len);
+}
+
+/* ---------------- hashing in pieces ---------------- */
+
+/* What a feeding that was accepted leaves wrong: of these bytes, onto this total. */
+static bool corrupts_pipe(uint64_t total, size_t len)
+{
+    return (IS(feed_over_4_kib) && len > 4096) ||
+           (IS(feed_past_1200) && total < AT(20) && total + len > 1200) ||
+           (IS(feed_from_2_29) && total >= AT(29) && total < AT(30)) ||
+           (IS(feed_from_2_32) && total >= AT(32) && total < AT(33)) ||
+           (IS(feed_of_made_up) && total > AT(40) && len > 0);
+}
+
+static uint64_t other_feed_refusal(uint64_t answer)
+{
+    if (IS(feed_unmarked))
+        return answer - EDONR_MARK;
+    if (IS(feed_refusals_exchanged))
+        return EDONR_MARK + edonr_refused(5 - edonr_marked_refusal(answer), 0);
+    return answer;
+}
+
+#define JOIN_EXPANDED(a, b) a##_##b
+#define JOIN(a, b) JOIN_EXPANDED(a, b)
+
+#define KIND narrow
+#include "mutants_kind.h"
+#undef KIND
+
+#define KIND wide
+#include "mutants_kind.h"
+#undef KIND
+
+/* ---------------- digest ---------------- */
+
+uint64_t REAL(digest)(uint32_t size, const uint8_t *message, size_t message_len,
+                      uint8_t *out, size_t out_len);
+
+/* By pieces, of which the part behind 2^32 bytes is read from the front again. */
+static uint64_t digest_of_wrapped(uint32_t size, const uint8_t *message, size_t len,
+                                  uint8_t *out, size_t out_len)
+{
+    struct edonr_narrow narrow;
+    struct edonr_wide wide;
+    if (size == 224 || size == 256) {
+        REAL(narrow_open)(&narrow, size);
+        feed_narrow_wrapped(&narrow, message, len);
+        return REAL(narrow_finish)(&narrow, out, out_len);
+    }
+    REAL(wide_open)(&wide, size);
+    feed_wide_wrapped(&wide, message, len);
+    return REAL(wide_finish)(&wide, out, out_len);
+}
+
+uint64_t WRAP(digest)(uint32_t size, const uint8_t *message, size_t message_len,
+                      uint8_t *out, size_t out_len)
+{
+    if (IS(digest_without_pointer) && message == NULL)
+        return edonr_refused(EDONR_REFUSED_MESSAGE, 0);
+    if (IS(digest_of_another_size) && size == 320)
+        size = 256;
+    if (IS(digest_index_by_32_bits) && message_len > AT(32))
+        return digest_of_wrapped(size, message, message_len, out, out_len);
+    uint64_t answer = REAL(digest)(size, message, message_len, out, out_len);
+    if (!succeeds(answer))
+        return answer;
+    if ((IS(digest_from_4_mib) && message_len >= 4 << 20) ||
+        (IS(digest_from_2_29) && message_len >= AT(29)))
+        out[0] ^= 1;
+    if (IS(digest_writes_behind) && out_len > size / 8)
+        out[size / 8] ^= 1;
+    return answer;
+}
