@@ -1,2 +1,3 @@
+pub mod Tests
 pub mod Refuse
-pub mod Told
+pub mod Injective

@@ -1,3 +1,3 @@
 pub mod Number
 pub mod Refuse
-pub mod Told
+pub mod Injective

@@ -1,3 +1,2 @@
-pub mod Cases
+pub mod Outcome
 pub mod Solutions
-pub mod Fitting

@@ -1,3 +1,1 @@
-pub mod Operation
 pub mod Theorem
-pub mod Fitting

@@ -7,11 +7,12 @@ use lib.ListN.{length, take, drop, replicate, length-append, take-append-drop}
 use lib.Seq.{length-take-le}
 use Rattle.digest.specs.Blocks.{compressed, rest, filled}
 use Rattle.digest.proofs.Blocks.{rest-rest, compressed-twice, rest-short, rest-one, compressed-short, compressed-one}
-use Rattle.digest.proofs.Buffer.{to-end}
+use Rattle.memory.proofs.Lists.{to-end}
 
 module _ {P : Type 0} (B : ℕ) (pos : 0 < B) (f : P → List ℕ → P) (p : P) (a s : List ℕ) where
   -- nothing is pending
-  pub absorb-none : {r : P} {w : List ℕ} → length a ≡ 0 → (r ≡ compressed B f p s) × (w ≡ filled B (rest B s)) → (r ≡ compressed B f p (a ++ s)) × (w ≡ filled B (rest B (a ++ s)))
+  pub absorb-none : {r : P} {w : List ℕ} → length a ≡ 0 → (r ≡ compressed B f p s) × (w ≡ filled B (rest B s))
+      → (r ≡ compressed B f p (a ++ s)) × (w ≡ filled B (rest B (a ++ s)))
   absorb-none {r} {w} h e = none a h
     where
       none : (l : List ℕ) → length l ≡ 0 → (r ≡ compressed B f p (l ++ s)) × (w ≡ filled B (rest B (l ++ s)))

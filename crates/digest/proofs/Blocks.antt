@@ -33,6 +33,10 @@ module _ {P : Type 0} (B : ℕ) (f : P → List ℕ → P) where
       let d : i * B + B - i * B ≡ B = omega arith in
       rw (add-one) (g ∙ rw (d, e))
 
+  -- and its end
+  pub iterated-all : (p : P) (s : List ℕ) (i : ℕ) {q : P} → i ≡ length s / B → q ≡ iterated B f i p s → q ≡ compressed B f p s
+  iterated-all p s i n e = e ∙ ap (λ (j : ℕ). iterated B f j p s) n
+
 module _ (B : ℕ) (pos : 0 < B) where
   pub length-rest : (s : List ℕ) → length (rest B s) ≡ length s % B
   length-rest s = length-drop _ s ∙ sym (mod-eq-sub-div-mul (length s) B)

@@ -4,15 +4,9 @@ use mathlib.Core.List.{List, _++_}
 use Prim.Native.Nat.{ℕ, _+_, _-_, _%_, _≤_, _<_}
 use native.Mathlib.Nat.{zero-add, mod-lt, le-of-lt}
 use native.Mathlib.Omega.{arith}
-use lib.ListN.{length, take, drop, replicate, length-append, length-replicate, replicate-append-replicate, length-drop}
-use lib.Seq.{take-all, take-at, drop-at, drop-append-add, length-take-le}
+use lib.ListN.{length, take, drop, replicate, length-append, length-replicate, replicate-append-replicate}
+use lib.Seq.{take-at, drop-at, drop-append-add, length-take-le}
 use Rattle.digest.specs.Blocks.{filled}
-
--- a part of a list to its end
-pub to-end : (s : List ℕ) (n : ℕ) → n ≤ length s → take (length s - n) (drop n s) ≡ drop n s
-to-end s n h =
-    let l : length (drop n s) ≤ length s - n = simp length-drop (omega arith) in
-    take-all (length s - n) (drop n s) l
 
 -- as many bytes of a block wait as the total leaves
 pub length-pending : (B : ℕ) → 0 < B → (w : List ℕ) → length w ≡ B → (t : ℕ) → length (take (t % B) w) ≡ t % B

@@ -1,6 +1,6 @@
 -- Every way of cutting a message: the theorem of specs/Cutting.antt, for every kind, and so for the narrow and the wide one and for the one call.
 use mathlib.Core.Path.{_≡_, refl, ap, sym, subst, _∙_}
-use mathlib.Core.Bool.{Bool, true, false}
+use mathlib.Core.Bool.{Bool, true, false, cond}
 use mathlib.Core.List.{List, [], _∷_, _++_}
 use Prim.Native.Nat.{ℕ, _+_, _/_, _≤_, _<_}
 use native.Mathlib.Nat.{zero-add, zero-mod}
@@ -17,13 +17,16 @@ use Rattle.digest.specs.Padding.{padding}
 use Rattle.digest.specs.Blocks.{rest}
 use Rattle.answer.specs.Refuse.{unless, outcome}
 use Rattle.digest.specs.Refusals.{limit}
-use Rattle.digest.specs.Kind.{Kind, choose, known, narrowKind, wideKind}
-use Rattle.digest.specs.State.{Hash, formed, pending, opened, zeros, openAnswer, openState, advanced, feedAnswer, feedState, feedAll, closed, cut, finished, finishAnswer, finishOut}
+use Rattle.digest.specs.Kind.{Kind, knownSize, narrowKind, wideKind}
+use Rattle.digest.specs.State.{Hash, formed, pending, opened, zeros, openAnswer, openState, advanced, feedAnswer, feedState, feedAll}
+use Rattle.digest.specs.State.{closed, cut, finished, finishAnswer, finishOut}
 use Rattle.digest.specs.OneCall.{digestOf, digestAnswer, digestOut}
 use Rattle.digest.specs.Waiting.{Held, Clean}
-use Rattle.digest.specs.Cutting.{joined, Written, fedAndFinished, inPieces, accepted, Call, feed, finish, pieces, afterCalls, Cutting, CuttingOneCall}
+use Rattle.digest.specs.Cutting.{concatenated, Written, fedAndFinished, inPieces, accepted, Call, feed, finish, pieces, afterCalls, Cutting, CuttingOneCall}
 use Rattle.digest.proofs.Blocks.{compressed-twice}
-use Rattle.digest.proofs.Feeding.{decide, held, clean, held-opened, clean-opened, pending-advanced, advanced-size, advanced-total, advanced-twice, advanced-nothing, feed-done, feed-state, feed-length, left-done, formed-total, formed-advanced}
+use Rattle.answer.proofs.Tests.{decide}
+use Rattle.digest.proofs.Feeding.{held, clean, held-opened, clean-opened, feed-done, feed-state, feed-length, left-done, formed-total, formed-advanced}
+use Rattle.digest.proofs.Feeding.{pending-advanced, advanced-size, advanced-total, advanced-twice, advanced-nothing}
 
 module _ (k : Kind) (pos : 0 < k .block) where
   -- ---- one piece
@@ -46,14 +49,15 @@ module _ (k : Kind) (pos : 0 < k .block) where
       ap (λ (b : Answer). outcome b (fedAndFinished k (feedState k h s) ss out) (record { answer = b; out = out })) d
       ∙ ap (λ (x : Hash). fedAndFinished k x ss out) (left-done k pos h s d)
 
-  refused-state : (h : Hash) (s : List ℕ) (ss : List (List ℕ)) (out : List ℕ) → formed k h ≡ false → fedAndFinished k h (s ∷ ss) out ≡ record { answer = Refused State 0; out = out }
+  refused-state : (h : Hash) (s : List ℕ) (ss : List (List ℕ)) (out : List ℕ) → formed k h ≡ false
+      → fedAndFinished k h (s ∷ ss) out ≡ record { answer = Refused State 0; out = out }
   refused-state h s ss out f = stops h s ss out (feed-state k pos h s f)
 
   refused-length : (h : Hash) (s : List ℕ) (ss : List (List ℕ)) (out : List ℕ) → formed k h ≡ true → limit < h .total + length s
       → fedAndFinished k h (s ∷ ss) out ≡ record { answer = Refused Length 0; out = out }
   refused-length h s ss out f l = stops h s ss out (feed-length k pos h s f l)
 
-  -- ---- any pieces are the joined piece
+  -- ---- any pieces are the concatenated piece
 
   joined-twice : (h : Hash) (s t out : List ℕ) → Held k h → formed k h ≡ true → h .total + length s ≤ limit
       → one (advanced k h s) t out ≡ one h (s ++ t) out
@@ -70,7 +74,7 @@ module _ (k : Kind) (pos : 0 < k .block) where
           let m : limit < advanced k h s .total + length t = omega (arith, length-append s t, advanced-total k pos h s) in
           refused-length (advanced k h s) t [] out f′ m ∙ sym (refused-length h (s ++ t) [] out f (omega arith))
 
-  pub all-joined : (ss : List (List ℕ)) (h : Hash) (out : List ℕ) → Held k h → Clean k h → fedAndFinished k h ss out ≡ one h (joined ss) out
+  pub all-joined : (ss : List (List ℕ)) (h : Hash) (out : List ℕ) → Held k h → Clean k h → fedAndFinished k h ss out ≡ one h (concatenated ss) out
   all-joined [] h out e c = decide (formed k h) formed-yes formed-no
     where
       formed-yes : formed k h ≡ true → ends h out ≡ one h [] out
@@ -83,17 +87,18 @@ module _ (k : Kind) (pos : 0 < k .block) where
           let a : finishAnswer k h out ≡ Refused State 0 = rw f in
           ap (λ (b : Answer). record { answer = b; out = outcome b (finished k h ++ drop (h .size / 8) out) out }) a ∙ sym (refused-state h [] [] out f)
   all-joined (s ∷ ss) h out e c =
-      decide (formed k h) (λ f. decided f (all-joined ss (advanced k h s) out (held k pos h s e) (clean k pos h s e)) (decLe (h .total + length s) limit)) formed-no
+      let next = all-joined ss (advanced k h s) out (held k pos h s e) (clean k pos h s e) in
+      decide (formed k h) (λ f. decided f next (decLe (h .total + length s) limit)) formed-no
     where
-      formed-no : formed k h ≡ false → fedAndFinished k h (s ∷ ss) out ≡ one h (s ++ joined ss) out
-      formed-no f = refused-state h s ss out f ∙ sym (refused-state h (s ++ joined ss) [] out f)
+      formed-no : formed k h ≡ false → fedAndFinished k h (s ∷ ss) out ≡ one h (s ++ concatenated ss) out
+      formed-no f = refused-state h s ss out f ∙ sym (refused-state h (s ++ concatenated ss) [] out f)
 
-      decided : formed k h ≡ true → fedAndFinished k (advanced k h s) ss out ≡ one (advanced k h s) (joined ss) out → Dec (h .total + length s ≤ limit)
-          → fedAndFinished k h (s ∷ ss) out ≡ one h (s ++ joined ss) out
-      decided f i (yes l) = goes h s ss out f l ∙ i ∙ joined-twice h s (joined ss) out e f l
+      decided : formed k h ≡ true → fedAndFinished k (advanced k h s) ss out ≡ one (advanced k h s) (concatenated ss) out → Dec (h .total + length s ≤ limit)
+          → fedAndFinished k h (s ∷ ss) out ≡ one h (s ++ concatenated ss) out
+      decided f i (yes l) = goes h s ss out f l ∙ i ∙ joined-twice h s (concatenated ss) out e f l
       decided f i (no l) =
-          let m : limit < h .total + length (s ++ joined ss) = omega (arith, length-append s (joined ss)) in
-          refused-length h s ss out f (omega arith) ∙ sym (refused-length h (s ++ joined ss) [] out f m)
+          let m : limit < h .total + length (s ++ concatenated ss) = omega (arith, length-append s (concatenated ss)) in
+          refused-length h s ss out f (omega arith) ∙ sym (refused-length h (s ++ concatenated ss) [] out f m)
 
   -- ---- the digest in one call
 
@@ -103,7 +108,7 @@ module _ (k : Kind) (pos : 0 < k .block) where
   refused-call : (n : ℕ) (m out : List ℕ) {r : Refusal} → digestAnswer k n m out ≡ Refused r 0 → record { answer = Refused r 0; out = out } ≡ called n m out
   refused-call n m out e = ap (λ (b : Answer). record { answer = b; out = outcome b (digestOf k n m ++ drop (n / 8) out) out }) (sym e)
 
-  module _ (n : ℕ) (kn : known k n ≡ true) where
+  module _ (n : ℕ) (kn : knownSize k n ≡ true) where
     open-done : openState k n ≡ opened k n
     open-done = ap (λ (b : Bool). outcome (unless b Size (Done 0)) (opened k n) (zeros k)) kn
 
@@ -115,7 +120,8 @@ module _ (k : Kind) (pos : 0 < k .block) where
       unfolding advanced closed digestOf
       finished-is =
           let z : pending k (opened k n) ++ m ≡ m = rw zero-mod in
-          let w : pending k (advanced k (opened k n) m) ≡ rest (k .block) m = pending-advanced k pos (opened k n) m (held-opened k pos n) ∙ ap (rest (k .block)) z in
+          let w : pending k (advanced k (opened k n) m) ≡ rest (k .block) m =
+          pending-advanced k pos (opened k n) m (held-opened k pos n) ∙ ap (rest (k .block)) z in
           ap (cut k n)
           (rw (w, zero-add (length m), z) (compressed-twice (k .block) pos (k .step) (k .start n) m (padding (k .block) (length m))))
 
@@ -127,27 +133,27 @@ module _ (k : Kind) (pos : 0 < k .block) where
           let a : finishAnswer k h out ≡ digestAnswer k n m out = rw (kn, le-leb _ _ l, f, z) in
           λ i. record { answer = a i; out = outcome (a i) (finished-is i ++ drop (z i / 8) out) out }
 
-  whole : (n : ℕ) (ss : List (List ℕ)) (out : List ℕ) → inPieces k n ss out ≡ called n (joined ss) out
-  whole n ss out = decide (known k n) (λ kn. opened-yes kn (decLe (length (joined ss)) limit)) opened-no
+  whole : (n : ℕ) (ss : List (List ℕ)) (out : List ℕ) → inPieces k n ss out ≡ called n (concatenated ss) out
+  whole n ss out = decide (knownSize k n) (λ kn. opened-yes kn (decLe (length (concatenated ss)) limit)) opened-no
     where
-      opened-no : known k n ≡ false → inPieces k n ss out ≡ called n (joined ss) out
+      opened-no : knownSize k n ≡ false → inPieces k n ss out ≡ called n (concatenated ss) out
       opened-no e =
           let a : openAnswer k n ≡ Refused Size 0 = rw e in
-          ap (λ (b : Answer). outcome b (fedAndFinished k (openState k n) ss out) (record { answer = b; out = out })) a ∙ refused-call n (joined ss) out (rw e)
+          ap (λ (b : Answer). outcome b (fedAndFinished k (openState k n) ss out) (record { answer = b; out = out })) a ∙ refused-call n (concatenated ss) out (rw e)
 
-      opened-is : known k n ≡ true → inPieces k n ss out ≡ one (opened k n) (joined ss) out
+      opened-is : knownSize k n ≡ true → inPieces k n ss out ≡ one (opened k n) (concatenated ss) out
       opened-is kn =
           let a : openAnswer k n ≡ Done 0 = rw kn in
           ap (λ (b : Answer). outcome b (fedAndFinished k (openState k n) ss out) (record { answer = b; out = out })) a
           ∙ ap (λ (x : Hash). fedAndFinished k x ss out) (open-done n kn) ∙ all-joined ss (opened k n) out (held-opened k pos n) (clean-opened k pos n)
 
-      opened-yes : known k n ≡ true → Dec (length (joined ss) ≤ limit) → inPieces k n ss out ≡ called n (joined ss) out
+      opened-yes : knownSize k n ≡ true → Dec (length (concatenated ss) ≤ limit) → inPieces k n ss out ≡ called n (concatenated ss) out
       opened-yes kn (yes l) =
-          opened-is kn ∙ goes (opened k n) (joined ss) [] out (formed-opened n kn) (omega arith) ∙ one-call n kn (joined ss) l out
+          opened-is kn ∙ goes (opened k n) (concatenated ss) [] out (formed-opened n kn) (omega arith) ∙ one-call n kn (concatenated ss) l out
       opened-yes kn (no l) =
-          let g : limit < length (joined ss) = omega arith in
-          opened-is kn ∙ refused-length (opened k n) (joined ss) [] out (formed-opened n kn) (omega arith)
-          ∙ refused-call n (joined ss) out (rw (kn, lt-leb _ _ g))
+          let g : limit < length (concatenated ss) = omega arith in
+          opened-is kn ∙ refused-length (opened k n) (concatenated ss) [] out (formed-opened n kn) (omega arith)
+          ∙ refused-call n (concatenated ss) out (rw (kn, lt-leb _ _ g))
 
   -- ---- a caller who goes on behind a refusal
 
@@ -170,7 +176,8 @@ module _ (k : Kind) (pos : 0 < k .block) where
   accepted-fits : (ss : List (List ℕ)) (h : Hash) → h .total ≤ limit → h .total + length (accepted k h ss) ≤ limit
   accepted-fits [] h l = omega arith
   accepted-fits (s ∷ ss) h l =
-      decide (formed k h) (λ f. decided f (accepted-fits ss h l) (accepted-fits ss (advanced k h s)) (decLe (h .total + length s) limit)) (formed-no (accepted-fits ss h l))
+      let next = accepted-fits ss h l in
+      decide (formed k h) (λ f. decided f next (accepted-fits ss (advanced k h s)) (decLe (h .total + length s) limit)) (formed-no next)
     where
       formed-no : h .total + length (accepted k h ss) ≤ limit → formed k h ≡ false → h .total + length (accepted k h (s ∷ ss)) ≤ limit
       formed-no i f = rw (passed h s ss (feed-state k pos h s f) .0) i
@@ -201,11 +208,12 @@ module _ (k : Kind) (pos : 0 < k .block) where
 
   fits : (n : ℕ) (ss : List (List ℕ)) → length (accepted k (openState k n) ss) ≤ limit
   fits n ss =
-      let z : openState k n .total ≡ 0 = decide (known k n) (λ e. ap (λ (h : Hash). h .total) (open-done n e)) (λ e. ap (λ (b : Bool). outcome (unless b Size (Done 0)) (opened k n) (zeros k) .total) e) in
+      let z : openState k n .total ≡ 0 =
+      decide (knownSize k n) (λ e. ap (λ (h : Hash). h .total) (open-done n e)) (λ e. ap (λ (b : Bool). outcome (unless b Size (Done 0)) (opened k n) (zeros k) .total) e) in
       let i = accepted-fits ss (openState k n) (rw z (lit≤ tt)) in
       omega arith
 
-  goes-on : (n : ℕ) (ss : List (List ℕ)) (out : List ℕ) → known k n ≡ true
+  goes-on : (n : ℕ) (ss : List (List ℕ)) (out : List ℕ) → knownSize k n ≡ true
       → (finishAnswer k (feedAll k (openState k n) ss) out ≡ digestAnswer k n (accepted k (openState k n) ss) out)
       × (finishOut k (feedAll k (openState k n) ss) out ≡ digestOut k n (accepted k (openState k n) ss) out)
   goes-on n ss out kn =
@@ -233,9 +241,9 @@ pub wide-cutting : Cutting wideKind
 wide-cutting = cutting wideKind (lit≤ tt)
 
 pub one-call-cutting : CuttingOneCall
-one-call-cutting n = by-kind (known wideKind n)
+one-call-cutting n = by-kind (knownSize wideKind n)
   where
-    by-kind : (b : Bool) (ss : List (List ℕ)) (out : List ℕ) → inPieces (choose b wideKind narrowKind) n ss out
-        ≡ record { answer = digestAnswer (choose b wideKind narrowKind) n (joined ss) out; out = digestOut (choose b wideKind narrowKind) n (joined ss) out }
+    by-kind : (b : Bool) (ss : List (List ℕ)) (out : List ℕ) → inPieces (cond b wideKind narrowKind) n ss out
+        ≡ record { answer = digestAnswer (cond b wideKind narrowKind) n (concatenated ss) out; out = digestOut (cond b wideKind narrowKind) n (concatenated ss) out }
     by-kind true = wide-cutting .whole n
     by-kind false = narrow-cutting .whole n

@@ -1,6 +1,6 @@
 -- Feeding: two feedings are one of the joined bytes, and what is refused leaves the state. For every kind, and every state that code can hold.
 use mathlib.Core.Path.{_≡_, refl, ap, sym, _∙_}
-use mathlib.Core.Bool.{Bool, true, false, _&&_}
+use mathlib.Core.Bool.{true, false}
 use mathlib.Core.List.{List, [], _++_, append-nil, append-assoc}
 use Prim.Native.Nat.{ℕ, _+_, _-_, _%_, _≤_, _<_}
 use native.Mathlib.Nat.{sub-zero, mod-lt, mod-add-mod, zero-mod}
@@ -12,24 +12,16 @@ use lib.Seq.{take-at, drop-at}
 use Rattle.answer.specs.declared.Answer.{Answer}
 use Rattle.answer.specs.declared.Answer.the-variants.{Done, Refused}
 use Rattle.answer.specs.declared.Refusal.the-variants.{State, Length}
+use Rattle.answer.proofs.Tests.{both-true}
 use Rattle.digest.specs.Blocks.{compressed, rest, filled}
 use Rattle.digest.specs.Pipe.{Pipe}
 use Rattle.answer.specs.Refuse.{outcome}
 use Rattle.digest.specs.Refusals.{limit}
-use Rattle.digest.specs.Kind.{Kind, known}
+use Rattle.digest.specs.Kind.{Kind, knownSize}
 use Rattle.digest.specs.State.{Hash, formed, pending, opened, advanced, feedAnswer, feedState}
 use Rattle.digest.specs.Waiting.{Held, Clean}
 use Rattle.digest.proofs.Buffer.{length-pending}
 use Rattle.digest.proofs.Blocks.{length-rest, rest-rest, compressed-twice, rest-short, compressed-short}
-
-pub both-true : (a b : Bool) → a && b ≡ true → (a ≡ true) × (b ≡ true)
-both-true true b e = (refl, e)
-both-true false b e = let z : _≡_ {A = ℕ} 0 1 = cc in absurd (omega arith)
-
--- a test comes out true or false
-pub decide : {C : Type 0} (b : Bool) → (b ≡ true → C) → (b ≡ false → C) → C
-decide true f g = f refl
-decide false f g = g refl
 
 same : {n : ℕ} {p p′ : Pipe} {w w′ : List ℕ} {t t′ : ℕ} → p ≡ p′ → w ≡ w′ → t ≡ t′
     → _≡_ {A = Hash} (record { size = n; pipe = p; waiting = w; total = t }) (record { size = n; pipe = p′; waiting = w′; total = t′ })
@@ -81,8 +73,10 @@ module _ (k : Kind) (pos : 0 < k .block) where
       let j : rest (k .block) (w ++ s) ++ t ≡ pending k (advanced k h s) ++ t = ap (λ (l : List ℕ). l ++ t) (sym (pending-advanced h s e)) in
       let a : (w ++ s) ++ t ≡ w ++ (s ++ t) = append-assoc w s t in
       same
-      (ap (compressed (k .block) (k .step) _) (sym j) ∙ compressed-twice (k .block) pos (k .step) (h .pipe) (w ++ s) t ∙ ap (compressed (k .block) (k .step) (h .pipe)) a)
-      (ap (λ (l : List ℕ). filled (k .block) (rest (k .block) l)) (sym j) ∙ ap (filled (k .block)) (rest-rest (k .block) pos (w ++ s) t ∙ ap (rest (k .block)) a))
+      (ap (compressed (k .block) (k .step) _) (sym j) ∙ compressed-twice (k .block) pos (k .step) (h .pipe) (w ++ s) t
+      ∙ ap (compressed (k .block) (k .step) (h .pipe)) a)
+      (ap (λ (l : List ℕ). filled (k .block) (rest (k .block) l)) (sym j)
+      ∙ ap (filled (k .block)) (rest-rest (k .block) pos (w ++ s) t ∙ ap (rest (k .block)) a))
       (simp length-append (omega arith))
 
   -- feeding nothing leaves a state that has zeros behind its waiting bytes
@@ -92,10 +86,12 @@ module _ (k : Kind) (pos : 0 < k .block) where
       let l = length-pending (k .block) pos (h .waiting) e (h .total) in
       let b : length (pending k h) < k .block = rw l (mod-lt _ pos) in
       let w : filled (k .block) (pending k h) ≡ h .waiting =
-      ap (λ (n : ℕ). pending k h ++ replicate (k .block - n) 0) l ∙ ap (λ (z : List ℕ). pending k h ++ z) (sym c) ∙ take-append-drop (h .total % k .block) (h .waiting) in
+      ap (λ (n : ℕ). pending k h ++ replicate (k .block - n) 0) l ∙ ap (λ (z : List ℕ). pending k h ++ z) (sym c)
+      ∙ take-append-drop (h .total % k .block) (h .waiting) in
       same
       (ap (compressed (k .block) (k .step) (h .pipe)) (append-nil (pending k h)) ∙ compressed-short (k .block) pos (k .step) (h .pipe) (pending k h) b)
-      (ap (λ (x : List ℕ). filled (k .block) (rest (k .block) x)) (append-nil (pending k h)) ∙ ap (filled (k .block)) (rest-short (k .block) pos (pending k h) b) ∙ w)
+      (ap (λ (x : List ℕ). filled (k .block) (rest (k .block) x)) (append-nil (pending k h))
+      ∙ ap (filled (k .block)) (rest-short (k .block) pos (pending k h) b) ∙ w)
       (omega arith)
 
   -- ---- what a feeding answers, by its tests
@@ -114,8 +110,8 @@ module _ (k : Kind) (pos : 0 < k .block) where
   left-done h s e = ap (λ (a : Answer). outcome a (advanced k h s) h) e
 
   pub formed-total : (h : Hash) → formed k h ≡ true → h .total ≤ limit
-  formed-total h e = leb-true _ _ (both-true (known k (h .size)) (leb (h .total) limit) e .1)
+  formed-total h e = leb-true _ _ (both-true (knownSize k (h .size)) (leb (h .total) limit) e .1)
 
   pub formed-advanced : (h : Hash) (s : List ℕ) → formed k h ≡ true → h .total + length s ≤ limit → formed k (advanced k h s) ≡ true
   unfolding advanced
-  formed-advanced h s e l = rw (both-true (known k (h .size)) _ e .0, le-leb _ _ l)
+  formed-advanced h s e l = rw (both-true (knownSize k (h .size)) _ e .0, le-leb _ _ l)

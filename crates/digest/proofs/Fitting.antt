@@ -1,5 +1,5 @@
 -- A digest has at most 64 bytes, a total is at most 2^61 - 1, and refusals of a hash have the offset 0.
-use mathlib.Core.Bool.{Bool, true, false}
+use mathlib.Core.Bool.{Bool, true, false, cond}
 use mathlib.Core.List.{List}
 use Prim.Native.Nat.{ℕ, _+_, _/_, _^_, _≤_}
 use native.Mathlib.Omega.{arith}
@@ -9,15 +9,15 @@ use lib.ListN.{length}
 use mathlib.Core.Path.{_≡_}
 use Rattle.answer.specs.declared.Answer.the-variants.{Done}
 use Rattle.answer.specs.declared.Refusal.the-variants.{Size, State, Length, Output}
-use Rattle.answer.specs.Told.{Fits}
-use Rattle.answer.proofs.Told.{fits-unless}
+use Rattle.answer.specs.Injective.{Fits}
+use Rattle.answer.proofs.Injective.{fits-unless}
 use Rattle.digest.specs.Refusals.{limit, isSize, delivering}
-use Rattle.digest.specs.Kind.{Kind, choose, known, narrowKind, wideKind}
+use Rattle.digest.specs.Kind.{Kind, knownSize, narrowKind, wideKind}
 use Rattle.digest.specs.State.{formed}
 use Rattle.digest.specs.OneCall.{digestAnswer}
 use Rattle.digest.specs.Fitting.{OneCallFits, PiecesFit}
 use Rattle.digest.proofs.Answers.{size-bound}
-use Rattle.digest.proofs.Feeding.{both-true}
+use Rattle.answer.proofs.Tests.{both-true}
 
 module _ (k : Kind) (p : k .small ≤ 512) (q : k .large ≤ 512) where
   delivering-fits : (n : ℕ) (out : List ℕ) → isSize (k .small) (k .large) n ≡ true → Fits (2 ^ 32) (delivering n (length out))
@@ -42,12 +42,12 @@ module _ (k : Kind) (p : k .small ≤ 512) (q : k .large ≤ 512) where
             delivering-fits (h .size) out (both-true (isSize (k .small) (k .large) (h .size)) (leb (h .total) limit) e .0));
       }
 
-either-fits : (b : Bool) (n : ℕ) (m out : List ℕ) → Fits (2 ^ 32) (digestAnswer (choose b wideKind narrowKind) n m out)
+either-fits : (b : Bool) (n : ℕ) (m out : List ℕ) → Fits (2 ^ 32) (digestAnswer (cond b wideKind narrowKind) n m out)
 either-fits true = digest-fits wideKind (omega arith) (omega arith)
 either-fits false = digest-fits narrowKind (omega arith) (omega arith)
 
 pub one-call-fits : OneCallFits
-one-call-fits n = either-fits (known wideKind n) n
+one-call-fits n = either-fits (knownSize wideKind n) n
 
 pub narrow-pieces-fit : PiecesFit narrowKind
 narrow-pieces-fit = pieces-fit narrowKind (lit≤ tt) (lit≤ tt)

@@ -1,21 +1,21 @@
 -- The one call goes by the kind of its size.
 use mathlib.Core.Path.{_≡_, refl, sym, subst, _∙_}
-use mathlib.Core.Bool.{Bool, true, false, _||_}
+use mathlib.Core.Bool.{Bool, true, false, _||_, cond}
 use mathlib.Core.List.{List}
 use Prim.Native.Nat.{ℕ}
 use Rattle.answer.specs.declared.Answer.{Answer}
-use Rattle.digest.specs.Kind.{choose, known, narrowKind, wideKind}
+use Rattle.digest.specs.Kind.{knownSize, narrowKind, wideKind}
 use Rattle.digest.specs.OneCall.{digestAnswer, digestOut, oneCallAnswer, oneCallOut, FourSizes}
 
 -- what the call of one kind gives is what the one call gives, where the size's test came out so
-pub by-kind : (n : ℕ) (m out : List ℕ) (b : Bool) {a : Answer} {last : List ℕ} → known wideKind n ≡ b
-    → (a ≡ digestAnswer (choose b wideKind narrowKind) n m out) × (last ≡ digestOut (choose b wideKind narrowKind) n m out)
+pub by-kind : (n : ℕ) (m out : List ℕ) (b : Bool) {a : Answer} {last : List ℕ} → knownSize wideKind n ≡ b
+    → (a ≡ digestAnswer (cond b wideKind narrowKind) n m out) × (last ≡ digestOut (cond b wideKind narrowKind) n m out)
     → (a ≡ oneCallAnswer n m out) × (last ≡ oneCallOut n m out)
 by-kind n m out b {a} {last} e f =
-    subst (λ (x : Bool). (a ≡ digestAnswer (choose x wideKind narrowKind) n m out) × (last ≡ digestOut (choose x wideKind narrowKind) n m out)) (sym e) f
+    subst (λ (x : Bool). (a ≡ digestAnswer (cond x wideKind narrowKind) n m out) × (last ≡ digestOut (cond x wideKind narrowKind) n m out)) (sym e) f
 
 pub four-sizes : FourSizes
-four-sizes = record { sizes = λ n. either n (known wideKind n) refl }
+four-sizes = record { sizes = λ n. either n (knownSize wideKind n) refl }
   where
     right : (a : Bool) → true ≡ (a || true)
     right true = refl
@@ -25,6 +25,6 @@ four-sizes = record { sizes = λ n. either n (known wideKind n) refl }
     none true = refl
     none false = refl
 
-    either : (n : ℕ) (b : Bool) → known wideKind n ≡ b → known (choose b wideKind narrowKind) n ≡ (known narrowKind n || b)
-    either n true e = e ∙ right (known narrowKind n)
-    either n false e = none (known narrowKind n)
+    either : (n : ℕ) (b : Bool) → knownSize wideKind n ≡ b → knownSize (cond b wideKind narrowKind) n ≡ (knownSize narrowKind n || b)
+    either n true e = e ∙ right (knownSize narrowKind n)
+    either n false e = none (knownSize narrowKind n)

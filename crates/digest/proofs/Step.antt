@@ -1,38 +1,42 @@
 -- One block, from the products and loads that code makes, at any width.
-use mathlib.Core.Path.{_≡_, refl, ap, sym, _∙_}
-use mathlib.Core.List.{List, _∷_}
-use Prim.Native.Nat.{ℕ, zero, suc, _+_, _-_, _*_, _≤_}
-use native.Mathlib.Nat.{add-zero, add-assoc}
-use lib.ListN.{length, take, drop, getD}
-use lib.Seq.{getD-drop}
-use Rattle.memory.specs.Bytes.{wordAt, wordsAt}
+use mathlib.Core.Path.{_≡_, ap, _∙_}
+use mathlib.Core.List.{List}
+use Prim.Native.Nat.{ℕ, _-_, _*_, _≤_}
+use native.Mathlib.Nat.{add-zero}
+use lib.ListN.{length, take, drop}
+use Rattle.memory.specs.Bytes.{wordsAt}
+use Rattle.memory.proofs.Bytes.{words-drop}
 use Rattle.quasigroup.specs.Tables.{Width}
-use Rattle.quasigroup.specs.Product.{product}
+use Rattle.quasigroup.specs.Product.{leftHalf, rightHalf, joined, product}
+use Rattle.quasigroup.specs.Vector.{reversed}
+use Rattle.quasigroup.proofs.Quasigroup.{from-halves}
 use Rattle.digest.specs.Pipe.{Pipe}
-use Rattle.digest.specs.Step.{bar, wordBytes, R, blockY, step}
-use Rattle.digest.proofs.Buffer.{to-end}
-
--- words in a part of s that starts at j
-word-drop : (k j : ℕ) (s : List ℕ) (i : ℕ) → wordAt k (drop j s) i ≡ wordAt k s (j + i)
-word-drop zero j s i = refl
-word-drop (suc k) j s i =
-    ap (λ (x : ℕ). x + 256 * wordAt k (drop j s) (i + 1)) (getD-drop j s i 0)
-    ∙ ap (λ (x : ℕ). getD s (j + i) 0 + 256 * x) (word-drop k j s (i + 1) ∙ ap (wordAt k s) (sym (add-assoc j i 1)))
-
-words-drop : (k n j : ℕ) (s : List ℕ) (i : ℕ) → wordsAt k n (drop j s) i ≡ wordsAt k n s (j + i)
-words-drop k zero j s i = refl
-words-drop k (suc n) j s i =
-    ap (λ (x : ℕ). x ∷ wordsAt k n (drop j s) (i + k)) (word-drop k j s i)
-    ∙ ap (λ (l : List ℕ). wordAt k s (j + i) ∷ l) (words-drop k n j s (i + k) ∙ ap (wordsAt k n s) (sym (add-assoc j i k)))
+use Rattle.digest.specs.Step.{wordBytes, R, blockY, step}
+use Rattle.memory.proofs.Lists.{to-end}
 
 module _ (s : Width) where
   -- the eight rows
-  pub transformed : (C0 C1 X Y : List ℕ) {by bx d1 d2 d3 d4 d5 d6 d7 d8 : List ℕ}
-      → by ≡ bar Y → d1 ≡ product s by X → d2 ≡ product s d1 Y → d3 ≡ product s C0 d1 → d4 ≡ product s d3 d2 → d5 ≡ product s d3 C1
-      → d6 ≡ product s d4 d5 → bx ≡ bar X → d7 ≡ product s bx d5 → d8 ≡ product s d7 d6
+  transformed : (C0 C1 X Y : List ℕ) {by bx d1 d2 d3 d4 d5 d6 d7 d8 : List ℕ}
+      → by ≡ reversed Y → d1 ≡ product s by X → d2 ≡ product s d1 Y → d3 ≡ product s C0 d1 → d4 ≡ product s d3 d2 → d5 ≡ product s d3 C1
+      → d6 ≡ product s d4 d5 → bx ≡ reversed X → d7 ≡ product s bx d5 → d8 ≡ product s d7 d6
       → record { first = d7; second = d8 } ≡ R s C0 C1 X Y
   unfolding R
   transformed C0 C1 X Y by′ e1 e2 e3 e4 e5 e6 bx′ e7 e8 = rw (e8, e7, bx′, e6, e5, e4, e3, e2, e1, by′)
+
+  -- the same from the halves of each product, as code makes them: D4 and D5 share a left half, D6 and D7 a right one
+  pub by-halves : (C0 C1 X Y : List ℕ) {by bx l1 l2 l3 l4 l6 l7 l8 r1 r2 r3 r4 r5 r6 r8 d1 d2 d3 d4 d5 d6 d7 d8 : List ℕ} → by ≡ reversed Y
+      → l1 ≡ leftHalf s by → r1 ≡ rightHalf s X → d1 ≡ joined (s .bits) l1 r1
+      → l2 ≡ leftHalf s d1 → r2 ≡ rightHalf s Y → d2 ≡ joined (s .bits) l2 r2
+      → l3 ≡ leftHalf s C0 → r3 ≡ rightHalf s d1 → d3 ≡ joined (s .bits) l3 r3
+      → l4 ≡ leftHalf s d3 → r4 ≡ rightHalf s d2 → d4 ≡ joined (s .bits) l4 r4
+      → r5 ≡ rightHalf s C1 → d5 ≡ joined (s .bits) l4 r5
+      → r6 ≡ rightHalf s d5 → l6 ≡ leftHalf s d4 → d6 ≡ joined (s .bits) l6 r6
+      → bx ≡ reversed X → l7 ≡ leftHalf s bx → d7 ≡ joined (s .bits) l7 r6
+      → l8 ≡ leftHalf s d7 → r8 ≡ rightHalf s d6 → d8 ≡ joined (s .bits) l8 r8
+      → record { first = d7; second = d8 } ≡ R s C0 C1 X Y
+  by-halves C0 C1 X Y y l1 r1 e1 l2 r2 e2 l3 r3 e3 l4 r4 e4 r5 e5 r6 l6 e6 x l7 e7 l8 r8 e8 =
+      transformed C0 C1 X Y y (from-halves s _ X l1 r1 e1) (from-halves s _ Y l2 r2 e2) (from-halves s C0 _ l3 r3 e3) (from-halves s _ _ l4 r4 e4)
+      (from-halves s _ C1 l4 r5 e5) (from-halves s _ _ l6 r6 e6) x (from-halves s _ _ l7 r6 e7) (from-halves s _ _ l8 r8 e8)
 
   -- the block's two vectors, the second from the part behind the first
   pub stepped : (p : Pipe) (m : List ℕ) {x y : List ℕ} {r : Pipe} → 8 * wordBytes s ≤ length m

@@ -13,7 +13,8 @@ use Rattle.digest.proofs.Padding.{gap-near, gap-far}
 
 -- q stored at the end of the first n bytes of a buffer of N that holds w, the byte m and zeros
 module _ (N : ℕ) (w : List ℕ) (m : ℕ) (q : List ℕ) (eight : length q ≡ 8) where
-  placed : (n g : ℕ) {b c : List ℕ} → g + (length w + 9) ≡ n → n ≤ N → b ≡ filled N (w ++ m ∷ []) → c ≡ sets b (n - 8) q → take n c ≡ w ++ m ∷ (replicate g 0 ++ q)
+  placed : (n g : ℕ) {b c : List ℕ} → g + (length w + 9) ≡ n → n ≤ N → b ≡ filled N (w ++ m ∷ []) → c ≡ sets b (n - 8) q
+      → take n c ≡ w ++ m ∷ (replicate g 0 ++ q)
   placed n g {b} {c} e h eb ec =
       let x : List ℕ = (w ++ m ∷ []) ++ replicate g 0 in
       let r : ℕ = N - length (w ++ m ∷ []) - g in
@@ -41,7 +42,8 @@ module _ (B N : ℕ) (w : List ℕ) (m bits : ℕ) (big : 9 ≤ B) (short : leng
       placed N w m (bytes 8 bits) refl B (gap B (length w)) (ap (λ (j : ℕ). gap B (length w) + (j + 9)) (sym small) ∙ g) (omega arith) is e
 
   -- in two
-  pub tail-two : {b c : List ℕ} → b ≡ filled N (w ++ m ∷ []) → B < length w + 9 → c ≡ sets b (B + B - 8) (bytes 8 bits) → take (B + B) c ≡ w ++ ending B (length w) m bits
+  pub tail-two : {b c : List ℕ} → b ≡ filled N (w ++ m ∷ []) → B < length w + 9 → c ≡ sets b (B + B - 8) (bytes 8 bits)
+      → take (B + B) c ≡ w ++ ending B (length w) m bits
   tail-two is h e =
       let g = gap-far B big (length w) (rw small h) in
       placed N w m (bytes 8 bits) refl (B + B) (gap B (length w)) (ap (λ (j : ℕ). gap B (length w) + (j + 9)) (sym small) ∙ g) room is e

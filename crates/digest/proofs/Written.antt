@@ -1,24 +1,14 @@
 -- A pipe written out: its last bytes are those of its second vector.
-use mathlib.Core.Path.{_≡_, refl, ap, sym, _∙_}
-use mathlib.Core.List.{List, [], _∷_, _++_, append-nil, append-assoc}
-use Prim.Native.Nat.{ℕ, suc, _+_, _-_, _*_, _≤_}
-use native.Mathlib.Nat.{zero-add, zero-mul, suc-mul}
+use mathlib.Core.Path.{_≡_, ap, _∙_}
+use mathlib.Core.List.{List, [], _++_, append-nil}
+use Prim.Native.Nat.{ℕ, _+_, _-_, _*_, _≤_}
+use native.Mathlib.Nat.{zero-add}
 use native.Mathlib.Omega.{arith}
 use lib.ListN.{length, take, drop, length-append, length-drop}
 use lib.Seq.{take-all, drop-append-add}
-use Rattle.memory.specs.Bytes.{bytes, bytesOf}
-use Rattle.memory.proofs.Bytes.{length-bytes}
+use Rattle.memory.specs.Bytes.{bytesOf}
+use Rattle.memory.proofs.Bytes.{length-bytesOf, bytesOf-append}
 use Rattle.digest.specs.Blocks.{lastBytes}
-
-length-bytesOf : (k : ℕ) (v : List ℕ) → length (bytesOf k v) ≡ length v * k
-length-bytesOf k [] = sym (zero-mul k)
-length-bytesOf k (x ∷ v) =
-    let e : suc (length v) * k ≡ length v * k + k = suc-mul (length v) k in
-    length-append (bytes k x) (bytesOf k v) ∙ rw (length-bytes k x, length-bytesOf k v, e) (omega arith)
-
-bytesOf-append : (k : ℕ) (u v : List ℕ) → bytesOf k (u ++ v) ≡ bytesOf k u ++ bytesOf k v
-bytesOf-append k [] v = refl
-bytesOf-append k (x ∷ u) v = ap (λ (l : List ℕ). bytes k x ++ l) (bytesOf-append k u v) ∙ sym (append-assoc (bytes k x) (bytesOf k u) (bytesOf k v))
 
 module _ (k n : ℕ) (u v : List ℕ) (eu : length u ≡ 8) (ev : length v ≡ 8) (h : n ≤ 8 * k) where
   last-second : lastBytes n (bytesOf k (u ++ v)) ≡ drop (8 * k - n) (bytesOf k v)
@@ -35,7 +25,8 @@ module _ (k n : ℕ) (u v : List ℕ) (eu : length u ≡ 8) (ev : length v ≡ 8
       → last ≡ lastBytes n (bytesOf k (u ++ v)) ++ drop n out
   written-out out {b} {last} e f =
       let b′ : b ≡ bytesOf k v = e ∙ append-nil (bytesOf k v) in
-      let l : length (drop (8 * k - n) (bytesOf k v)) ≡ n = length-drop (8 * k - n) (bytesOf k v) ∙ omega (arith, length-bytesOf k v ∙ ap (λ (j : ℕ). j * k) ev) in
+      let l : length (drop (8 * k - n) (bytesOf k v)) ≡ n =
+      length-drop (8 * k - n) (bytesOf k v) ∙ omega (arith, length-bytesOf k v ∙ ap (λ (j : ℕ). j * k) ev) in
       let t : take (8 * k - (8 * k - n)) (drop (8 * k - n) b) ≡ drop (8 * k - n) (bytesOf k v) =
       ap (λ (x : List ℕ). take (8 * k - (8 * k - n)) (drop (8 * k - n) x)) b′ ∙ take-all (8 * k - (8 * k - n)) (drop (8 * k - n) (bytesOf k v)) (omega arith) in
       f ∙ rw (t, l, zero-add n, last-second)

@@ -7,14 +7,14 @@ use lib.ListN.{length}
 use Rattle.answer.specs.declared.Answer.{Answer}
 use Rattle.answer.specs.Refuse.{outcome}
 use Rattle.digest.specs.Refusals.{limit}
-use Rattle.digest.specs.Kind.{Kind, known, kindFor}
+use Rattle.digest.specs.Kind.{Kind, knownSize, kindFor}
 use Rattle.digest.specs.State.{Hash, openAnswer, openState, feedAnswer, feedState, feedAll, finishAnswer, finishOut}
 use Rattle.digest.specs.OneCall.{digestAnswer, digestOut, oneCallAnswer, oneCallOut}
 
 -- the bytes of a list of pieces
-abbrev pub joined : List (List ℕ) → List ℕ
-joined [] = []
-joined (s ∷ ss) = s ++ joined ss
+abbrev pub concatenated : List (List ℕ) → List ℕ
+concatenated [] = []
+concatenated (s ∷ ss) = s ++ concatenated ss
 
 -- an answer and the output beside it
 pub record Written : Type 0 where
@@ -58,10 +58,10 @@ pub record Cutting (k : Kind) : Type 0 where
   -- for every size, every list of pieces and every output: what the one call answers and writes for the joined message, refusals too.
   -- A joined message over 2^61 - 1 bytes is refused with 3 by both; then it is some feeding that refuses.
   pub whole : (n : ℕ) (ss : List (List ℕ)) (out : List ℕ)
-      → inPieces k n ss out ≡ record { answer = digestAnswer k n (joined ss) out; out = digestOut k n (joined ss) out }
+      → inPieces k n ss out ≡ record { answer = digestAnswer k n (concatenated ss) out; out = digestOut k n (concatenated ss) out }
   -- a caller who goes on behind refused feedings gets the digest of the accepted pieces, which are never too long
   pub fits : (n : ℕ) (ss : List (List ℕ)) → length (accepted k (openState k n) ss) ≤ limit
-  pub goesOn : (n : ℕ) (ss : List (List ℕ)) (out : List ℕ) → known k n ≡ true
+  pub goesOn : (n : ℕ) (ss : List (List ℕ)) (out : List ℕ) → knownSize k n ≡ true
       → (finishAnswer k (feedAll k (openState k n) ss) out ≡ digestAnswer k n (accepted k (openState k n) ss) out)
       × (finishOut k (feedAll k (openState k n) ss) out ≡ digestOut k n (accepted k (openState k n) ss) out)
   -- feeding behind a finishing goes on as if there had been none
@@ -70,4 +70,4 @@ pub record Cutting (k : Kind) : Type 0 where
 -- of the four sizes, each in its kind
 abbrev pub CuttingOneCall : Type 0
 CuttingOneCall = (n : ℕ) (ss : List (List ℕ)) (out : List ℕ)
-    → inPieces (kindFor n) n ss out ≡ record { answer = oneCallAnswer n (joined ss) out; out = oneCallOut n (joined ss) out }
+    → inPieces (kindFor n) n ss out ≡ record { answer = oneCallAnswer n (concatenated ss) out; out = oneCallOut n (concatenated ss) out }

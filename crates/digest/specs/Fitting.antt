@@ -1,8 +1,8 @@
--- What the calls of a hash answer fits the number that C receives, which therefore tells the answer (`NumbersTell`, crate answer): a success is below
+-- What the calls of a hash answer fits the number that C receives, which therefore tells the answer (`NumbersInjective`, crate answer): a success is below
 -- 2^32, and that of a feeding, whose refusals are marked, below 2^63. The statement; proofs/Fitting.antt shows it.
 use mathlib.Core.List.{List}
 use Prim.Native.Nat.{ℕ, _^_}
-use Rattle.answer.specs.Told.{Fits}
+use Rattle.answer.specs.Injective.{Fits}
 use Rattle.digest.specs.Kind.{Kind}
 use Rattle.digest.specs.State.{Hash, openAnswer, feedAnswer, finishAnswer}
 use Rattle.digest.specs.OneCall.{oneCallAnswer}

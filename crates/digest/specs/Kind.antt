@@ -1,9 +1,9 @@
 -- The two kinds of hash, narrow and wide (document 01, "The digest"; 001, Table 1.2): one definition over the width.
-use mathlib.Core.Bool.{Bool, true, false}
+use mathlib.Core.Bool.{Bool, cond}
 use mathlib.Core.List.{List}
 use Prim.Native.Nat.{ℕ, _*_}
 use lib.Dec.{eqb}
-use Rattle.quasigroup.specs.Tables.{Width, narrow, wide}
+use Rattle.quasigroup.specs.Tables.{Width, width32, width64}
 use Rattle.digest.specs.Pipe.{Pipe, written}
 use Rattle.digest.specs.Start.{start224, start256, start384, start512}
 use Rattle.digest.specs.Step.{wordBytes, step}
@@ -22,10 +22,6 @@ pub record Kind : Type 0 where
   -- a pipe in bytes
   pub written : Pipe → List ℕ
 
-abbrev pub choose : {A : Type 0} → Bool → A → A → A
-choose true a b = a
-choose false a b = b
-
 -- a block is sixteen words
 abbrev pub kindOf : Width → ℕ → ℕ → Pipe → Pipe → Kind
 kindOf s small large smallStart largeStart =
@@ -33,21 +29,21 @@ kindOf s small large smallStart largeStart =
       block = 16 * wordBytes s;
       small = small;
       large = large;
-      start = λ n. choose (eqb n small) smallStart largeStart;
+      start = λ n. cond (eqb n small) smallStart largeStart;
       step = step s;
       written = written (wordBytes s);
     }
 
 abbrev pub narrowKind : Kind
-narrowKind = kindOf narrow 224 256 start224 start256
+narrowKind = kindOf width32 224 256 start224 start256
 
 abbrev pub wideKind : Kind
-wideKind = kindOf wide 384 512 start384 start512
+wideKind = kindOf width64 384 512 start384 start512
 
 -- n is one of the kind's two sizes
-abbrev pub known : Kind → ℕ → Bool
-known k n = isSize (k .small) (k .large) n
+abbrev pub knownSize : Kind → ℕ → Bool
+knownSize k n = isSize (k .small) (k .large) n
 
 -- the kind of a size
 abbrev pub kindFor : ℕ → Kind
-kindFor n = choose (known wideKind n) wideKind narrowKind
+kindFor n = cond (knownSize wideKind n) wideKind narrowKind

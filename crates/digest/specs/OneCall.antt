@@ -9,7 +9,7 @@ use Rattle.digest.specs.Padding.{padded}
 use Rattle.digest.specs.Blocks.{compressed, lastBytes}
 use Rattle.answer.specs.Refuse.{outcome}
 use Rattle.digest.specs.Refusals.{digesting}
-use Rattle.digest.specs.Kind.{Kind, known, narrowKind, wideKind, kindFor}
+use Rattle.digest.specs.Kind.{Kind, knownSize, narrowKind, wideKind, kindFor}
 
 -- within one kind
 module _ (k : Kind) where
@@ -32,4 +32,4 @@ oneCallOut n m out = digestOut (kindFor n) n m out
 
 -- the sizes that the one call accepts
 pub record FourSizes : Type 0 where
-  pub sizes : (n : ℕ) → known (kindFor n) n ≡ (known narrowKind n || known wideKind n)
+  pub sizes : (n : ℕ) → knownSize (kindFor n) n ≡ (knownSize narrowKind n || knownSize wideKind n)

@@ -1,14 +1,11 @@
 -- One block: 001, Definition 8, and document 01, "The digest", at any width.
-use mathlib.Core.List.{List, [], _∷_}
+use mathlib.Core.List.{List}
 use Prim.Native.Nat.{ℕ, _*_, _/_}
 use Rattle.memory.specs.Bytes.{wordsAt}
 use Rattle.quasigroup.specs.Tables.{Width}
-use Rattle.quasigroup.specs.Product.{pick, product}
+use Rattle.quasigroup.specs.Product.{product}
+use Rattle.quasigroup.specs.Vector.{reversed}
 use Rattle.digest.specs.Pipe.{Pipe}
-
--- the words in reverse order; the bar is 001's and document 01's sign for it
-abbrev pub bar : List ℕ → List ℕ
-bar v = pick (7 ∷ 6 ∷ 5 ∷ 4 ∷ 3 ∷ 2 ∷ 1 ∷ 0 ∷ []) v
 
 -- how many bytes a word has
 abbrev pub wordBytes : Width → ℕ
@@ -18,13 +15,13 @@ module _ (s : Width) where
   -- the function R of C0, C1, X, Y, row by row
   unfoldable pub R : List ℕ → List ℕ → List ℕ → List ℕ → Pipe
   R C0 C1 X Y =
-      let D1 = product s (bar Y) X in
+      let D1 = product s (reversed Y) X in
       let D2 = product s D1 Y in
       let D3 = product s C0 D1 in
       let D4 = product s D3 D2 in
       let D5 = product s D3 C1 in
       let D6 = product s D4 D5 in
-      let D7 = product s (bar X) D5 in
+      let D7 = product s (reversed X) D5 in
       let D8 = product s D7 D6 in
       record { first = D7; second = D8 }
 

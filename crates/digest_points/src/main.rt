@@ -3,14 +3,12 @@
 ghost use Prim.Native.Nat.{_≤_, _<_};
 ghost use lib.ListN.{length};
 use answer::Answer;
-use block::Pipe32;
-use block::Pipe64;
+use block32::Pipe32;
+use block64::Pipe64;
 use libc::STDOUT_FILENO;
 use narrow::Narrow;
+use refusal::LIMIT;
 use wide::Wide;
-
-// The largest total of bytes.
-const LIMIT: u64 = 2305843009213693951;
 
 fn say(text: &[u8]) {
     io::write_all(STDOUT_FILENO, text);

@@ -5,7 +5,7 @@ ghost use Rattle.answer.specs.Number.{numberOf, markedNumber};
 ghost use Rattle.answer.specs.Refuse.{outcome};
 ghost use Rattle.quasigroup.specs.Product.{product};
 ghost use Rattle.quasigroup.specs.Division.{leftDivision, rightDivision};
-ghost use Rattle.buffer.specs.Operation.{answerFor, outputAfter};
+ghost use Rattle.operands.specs.Operation.{answerFor, outputAfter};
 ghost use Rattle.digest.specs.Kind.{narrowKind, wideKind};
 ghost use Rattle.digest.specs.State.{openAnswer, opened, finishAnswer, finishOut};
 ghost use Rattle.digest.specs.OneCall.{oneCallAnswer, oneCallOut};

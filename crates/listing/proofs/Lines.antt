@@ -1,4 +1,4 @@
--- The lines of a sheet, command by command, and a listing by what the check found. Assumes nothing.
+-- The lines of a sheet, command by command, and a listing by what the check found.
 use mathlib.Core.Path.{_≡_, ap, ap₂, sym, _∙_}
 use mathlib.Core.List.{List, [], _++_}
 use Prim.Native.Nat.{ℕ, _+_}
@@ -7,7 +7,7 @@ use lib.ListN.{length, length-append}
 use lib.Seq.{sets}
 use Rattle.answer.specs.declared.Refusal.{Refusal}
 use Rattle.answer.specs.Number.{refusalNumber}
-use Rattle.sheet.specs.declared.Command.{Command}
+use Rattle.sheet.specs.declared.Decoded.{Decoded}
 use Rattle.sheet.specs.declared.Read.{Read}
 use Rattle.sheet.specs.declared.Read.the-variants.{Got, Fault, End}
 use Rattle.sheet.specs.declared.Summary.the-variants.{Whole, Faulty}
@@ -15,25 +15,28 @@ use Rattle.sheet.specs.Read.{readAt}
 use Rattle.sheet.specs.Sheet.{Plan, scanFrom, planOf}
 use Rattle.sheet.specs.Work.{summary}
 use Rattle.sheet.proofs.Rest.{rest-got, rest-fault, rest-end}
-use Rattle.sheet.proofs.Ran.{checked, faulted, whole-scanned}
+use Rattle.sheet.proofs.Checked.{checked, faulted, whole-scanned}
 use Rattle.listing.specs.Listing.{line, lineOf, lines, endLine, refusedLine, listing}
-use Rattle.listing.specs.Pushed.{Pushed}
-use Rattle.listing.proofs.Texts.{sets-append}
+use Rattle.text.specs.Pushed.{Pushed}
+use Rattle.text.proofs.Pushed.{sets-append}
 
 -- the lines of the commands from offset i on
 abbrev pub rest : ℕ → List ℕ → ℕ → List ℕ
 rest w s i = lines w s (scanFrom (length s) w s i .offsets)
 
 module _ (w : ℕ) (s l₀ l : List ℕ) (next i : ℕ) (now : sets l next (rest w s i) ≡ sets l₀ 0 (rest w s 0)) (far : next + length (rest w s i) ≡ length (rest w s 0)) where
-  module _ (c : Command) (n : ℕ) (e : readAt w s i ≡ Got c n) where
-    rest-more : rest w s i ≡ line i c ++ rest w s n
-    rest-more = ap (λ (p : Plan). lines w s (p .offsets)) (rest-got w s i c n e) ∙ ap (λ (r : Read). lineOf i r ++ rest w s n) e
+  module _ (d : Decoded) (e : readAt w s i ≡ Got d) where
+    rest-more : rest w s i ≡ line i (d .command) ++ rest w s (d .next)
+    rest-more = ap (λ (p : Plan). lines w s (p .offsets)) (rest-got w s i d e) ∙ ap (λ (r : Read). lineOf i r ++ rest w s (d .next)) e
 
-    pub lines-more : {m : List ℕ} {k : ℕ} → Pushed l next (line i c) m k → (sets m k (rest w s n) ≡ sets l₀ 0 (rest w s 0)) × (k + length (rest w s n) ≡ length (rest w s 0))
+    pub lines-more : {m : List ℕ} {k : ℕ} → Pushed l next (line i (d .command)) m k
+        → (sets m k (rest w s (d .next)) ≡ sets l₀ 0 (rest w s 0)) × (k + length (rest w s (d .next)) ≡ length (rest w s 0))
     lines-more {m} {k} p =
         let f = p .behind in
-        let g : length (rest w s i) ≡ length (line i c) + length (rest w s n) = ap length rest-more ∙ length-append (line i c) (rest w s n) in (
-          ap₂ {C = List ℕ} (λ a b. sets a b (rest w s n)) (p .stored) f ∙ sym (sets-append l next (line i c) (rest w s n)) ∙ ap (sets l next) (sym rest-more) ∙ now,
+        let here = line i (d .command) in
+        let later = rest w s (d .next) in
+        let g : length (rest w s i) ≡ length here + length later = ap length rest-more ∙ length-append here later in (
+          ap₂ {C = List ℕ} (λ a b. sets a b later) (p .stored) f ∙ sym (sets-append l next here later) ∙ ap (sets l next) (sym rest-more) ∙ now,
           omega arith,
         )
 

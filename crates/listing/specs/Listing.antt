@@ -1,8 +1,6 @@
--- Document 01, "The lister": what it prints for a sheet, as ASCII bytes. Assumes nothing.
-use mathlib.Core.Bool.{cond}
+-- Document 01, "The lister": what it prints for a sheet, as ASCII bytes.
 use mathlib.Core.List.{List, [], _∷_, _++_}
-use Prim.Native.Nat.{ℕ, zero, suc, _+_, _/_, _%_}
-use lib.Dec.{ltb}
+use Prim.Native.Nat.{ℕ}
 use lib.ListN.{length}
 use Rattle.answer.specs.Number.{refusalNumber}
 use Rattle.sheet.specs.declared.Places.{Places}
@@ -12,14 +10,7 @@ use Rattle.sheet.specs.declared.Read.{Read}
 use Rattle.sheet.specs.declared.Read.the-variants.{Got, Fault, End}
 use Rattle.sheet.specs.Read.{readAt}
 use Rattle.sheet.specs.Sheet.{Outcome, Sound, Faulty, planOf}
-
--- the decimal digits of n, the highest first; f is above their number
-abbrev pub digits : ℕ → ℕ → List ℕ
-digits zero n = []
-digits (suc f) n = cond (ltb n 10) ((48 + n) ∷ []) (digits f (n / 10) ++ ((48 + n % 10) ∷ []))
-
-unfoldable pub decimal : ℕ → List ℕ
-decimal n = digits (suc n) n
+use Rattle.text.specs.Decimal.{decimal, spaced}
 
 -- the name of a command
 abbrev pub name : Command → List ℕ
@@ -31,10 +22,6 @@ name (Swap p) = 115 ∷ 119 ∷ 97 ∷ 112 ∷ []  -- swap
 name (Flip d) = 102 ∷ 108 ∷ 105 ∷ 112 ∷ []  -- flip
 name (Kmul d k) = 107 ∷ 109 ∷ 117 ∷ 108 ∷ []  -- kmul
 name (Kdiv d k) = 107 ∷ 100 ∷ 105 ∷ 118 ∷ []  -- kdiv
-
--- a space and a number
-abbrev pub spaced : ℕ → List ℕ
-spaced n = 32 ∷ decimal n
 
 -- d, and s where the command has one
 abbrev pub both : Places → List ℕ
@@ -55,7 +42,7 @@ abbrev pub line : ℕ → Command → List ℕ
 line i c = decimal i ++ ((32 ∷ name c) ++ (places c ++ (10 ∷ [])))
 
 abbrev pub lineOf : ℕ → Read → List ℕ
-lineOf i (Got c n) = line i c
+lineOf i (Got d) = line i (d .command)
 lineOf i (Fault r) = []
 lineOf i End = []
 

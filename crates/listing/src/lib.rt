@@ -1,15 +1,15 @@
 // What the lister prints for a sheet.
 ghost use mathlib.Core.Path.{_≡_};
-ghost use mathlib.Core.List.{[], _∷_};
+ghost use mathlib.Core.List.{_∷_};
 ghost use Prim.Native.Nat.{_+_, _<_, _≤_};
-ghost use lib.ListN.{length, set};
+ghost use lib.ListN.{length};
 ghost use lib.Seq.{sets};
 ghost use Rattle.answer.specs.Number.{refusalNumber};
 ghost use Rattle.sheet.specs.Sheet.{scanFrom};
-ghost use Rattle.listing.specs.Listing.{decimal, spaced, both, line, lines, endLine, refusedLine, listing};
+ghost use Rattle.listing.specs.Listing.{both, line, lines, endLine, refusedLine, listing};
 ghost use Rattle.listing.specs.Listing.{name as nameOf};
 ghost use Rattle.listing.specs.Listing.{places as placesOf};
-ghost use Rattle.listing.specs.Pushed.{Pushed};
+ghost use Rattle.text.specs.Pushed.{Pushed};
 use answer::Refusal;
 use sheet::Command;
 use sheet::Places;
@@ -19,59 +19,6 @@ use sheet::Summary;
 // A listing takes no more bytes than this: 68 for a command, of which there are 2,048 at most, and 64 for the last line, with each number
 // counted as 20 digits.
 pub const LONGEST_TEXT: usize = 139328;
-
-// A byte at place `at`, where there is one.
-fn store(out: &mut [u8], at: usize, b: u8)
-    ensures { λ _. ⌜ now (out .exit) ≡ set (now (out .entry)) at b ⌝ }
-{
-    if at < out.len() {
-        out[at] = b;
-    }
-}
-
-// A byte at place `at`; the answer is the next place, here and below.
-fn push(out: &mut [u8], at: usize, b: u8) -> usize
-    requires { ⌜ at < 1048576 ⌝ }
-    ensures { λ r. ⌜ Pushed (now (out .entry)) at (b ∷ []) (now (out .exit)) r ⌝ }
-{
-    store(out, at, b);
-    at + 1
-}
-
-// A text.
-fn push_text(out: &mut [u8], at: usize, text: &[u8]) -> usize
-    requires { ⌜ at + length (now text) ≤ 1048576 ⌝ }
-    ensures { λ r. ⌜ Pushed (now (out .entry)) at (now (text .entry)) (now (out .exit)) r ⌝ }
-{
-    let mut next = at;
-    let mut i = 0;
-    while i < text.len() {
-        next = push(out, next, text[i]);
-        i += 1;
-    }
-    next
-}
-
-// A number in decimal.
-fn push_number(out: &mut [u8], at: usize, n: usize) -> usize
-    requires { ⌜ at < 1000000 ⌝ }
-    ensures { λ r. ⌜ Pushed (now (out .entry)) at (decimal n) (now (out .exit)) r ⌝ }
-    ensures { λ r. ⌜ r ≤ at + 20 ⌝ }
-{
-    let mut text = [0u8; 20];
-    let k = io::decimal(n as u64, &mut text);
-    push_text(out, at, &text[..k])
-}
-
-// A space and a number.
-fn push_spaced(out: &mut [u8], at: usize, n: usize) -> usize
-    requires { ⌜ at < 900000 ⌝ }
-    ensures { λ r. ⌜ Pushed (now (out .entry)) at (spaced n) (now (out .exit)) r ⌝ }
-    ensures { λ r. ⌜ r ≤ at + 21 ⌝ }
-{
-    let next = push(out, at, b' ');
-    push_number(out, next, n)
-}
 
 // The name of a command.
 fn name(c: Command) -> [u8; 4]
@@ -95,8 +42,8 @@ fn push_both(out: &mut [u8], at: usize, p: Places) -> usize
     ensures { λ r. ⌜ Pushed (now (out .entry)) at (both p) (now (out .exit)) r ⌝ }
     ensures { λ r. ⌜ r ≤ at + 42 ⌝ }
 {
-    let next = push_spaced(out, at, p.d);
-    push_spaced(out, next, p.s)
+    let next = text::push_spaced(out, at, p.d);
+    text::push_spaced(out, next, p.s)
 }
 
 // The places of a command.
@@ -111,9 +58,9 @@ fn push_places(out: &mut [u8], at: usize, c: Command) -> usize
         Command::Ldiv(p) => push_both(out, at, p),
         Command::Rdiv(p) => push_both(out, at, p),
         Command::Swap(p) => push_both(out, at, p),
-        Command::Flip(d) => push_spaced(out, at, d),
-        Command::Kmul(d, _) => push_spaced(out, at, d),
-        Command::Kdiv(d, _) => push_spaced(out, at, d),
+        Command::Flip(d) => text::push_spaced(out, at, d),
+        Command::Kmul(d, _) => text::push_spaced(out, at, d),
+        Command::Kdiv(d, _) => text::push_spaced(out, at, d),
     }
 }
 
@@ -123,9 +70,9 @@ fn push_name(out: &mut [u8], at: usize, c: Command) -> usize
     ensures { λ r. ⌜ Pushed (now (out .entry)) at (32 ∷ nameOf c) (now (out .exit)) r ⌝ }
     ensures { λ r. ⌜ r ≤ at + 5 ⌝ }
 {
-    let next = push(out, at, b' ');
+    let next = text::push(out, at, b' ');
     let text = name(c);
-    push_text(out, next, &text)
+    text::push_text(out, next, &text)
 }
 
 // The line of a command at the offset `offset` of the sheet.
@@ -134,25 +81,26 @@ fn push_line(out: &mut [u8], at: usize, offset: usize, c: Command) -> usize
     ensures { λ r. ⌜ Pushed (now (out .entry)) at (line offset c) (now (out .exit)) r ⌝ }
     ensures { λ r. ⌜ r ≤ at + 68 ⌝ }
 {
-    let first = push_number(out, at, offset);
+    let first = text::push_number(out, at, offset);
     let second = push_name(out, first, c);
     let third = push_places(out, second, c);
-    push(out, third, 10)
+    text::push(out, third, 10)
 }
 
 // The lines of a sheet's commands, up to its end or its first fault.
 fn push_lines(width: u32, sheet: &[u8], out: &mut [u8]) -> usize
     requires { ⌜ length (now sheet) ≤ 4096 ⌝ }
-    ensures { λ r. ⌜ Pushed (now (out .entry)) 0 (lines width (now (sheet .entry)) (scanFrom (length (now (sheet .entry))) width (now (sheet .entry)) 0 .offsets)) (now (out .exit)) r ⌝ }
+    ensures { λ r. let s = now (sheet .entry) in ⌜ Pushed (now (out .entry)) 0 (lines width s (scanFrom (length s) width s 0 .offsets)) (now (out .exit)) r ⌝ }
     ensures { λ r. ⌜ r ≤ 139264 ⌝ }
 {
     let mut next = 0;
     let mut at = 0;
     loop {
-        match sheet::read_command(width, sheet, at) {
-            Read::Got(c, behind) => {
+        match reader::read_command(width, sheet, at) {
+            Read::Got(d) => {
+                let c = d.command;
                 next = push_line(out, next, at, c);
-                at = behind;
+                at = d.next;
             }
             Read::Fault(_) => return next,
             Read::End => return next,
@@ -167,16 +115,10 @@ fn push_end(out: &mut [u8], at: usize, size: usize, count: usize) -> usize
     ensures { λ r. ⌜ r ≤ at + 64 ⌝ }
 {
     let text = [b'e', b'n', b'd'];
-    let first = push_text(out, at, &text);
-    let second = push_spaced(out, first, size);
-    let third = push_spaced(out, second, count);
-    push(out, third, 10)
-}
-
-fn wide32(x: u32) -> usize
-    ensures { λ r. ⌜ r ≡ x ⌝ }
-{
-    x as usize
+    let first = text::push_text(out, at, &text);
+    let second = text::push_spaced(out, first, size);
+    let third = text::push_spaced(out, second, count);
+    text::push(out, third, 10)
 }
 
 // The line of a refused sheet.
@@ -185,10 +127,10 @@ fn push_refused(out: &mut [u8], r: Refusal, offset: u32) -> usize
     ensures { λ n. ⌜ n ≤ 64 ⌝ }
 {
     let text = [b'r', b'e', b'f', b'u', b's', b'e', b'd'];
-    let first = push_text(out, 0, &text);
-    let second = push_spaced(out, first, answer::refusal_number(r) as usize);
-    let third = push_spaced(out, second, wide32(offset));
-    push(out, third, 10)
+    let first = text::push_text(out, 0, &text);
+    let second = text::push_spaced(out, first, answer::refusal_number(r) as usize);
+    let third = text::push_spaced(out, second, offset as usize);
+    text::push(out, third, 10)
 }
 
 // What the lister prints for a sheet, from the start of the lent array on, as far as it has places; the answer is the text's length.
@@ -198,7 +140,7 @@ pub fn list(width: u32, sheet: &[u8], out: &mut [u8]) -> usize
     ensures { λ r. ⌜ r ≤ 139328 ⌝ }
 {
     let mut none = [0u16; 0];
-    match sheet::check(width, sheet, &mut none) {
+    match scanner::check(width, sheet, &mut none) {
         Summary::Whole(count, _) => {
             let at = push_lines(width, sheet, out);
             push_end(out, at, sheet.len(), count)

@@ -1,16 +1,27 @@
--- Words from bytes and back, for words of k bytes, for every k. Assumes nothing.
-use mathlib.Core.Path.{_≡_, refl, ap, sym, subst, _∙_}
+-- Words from bytes and back, for words of k bytes, for every k.
+use mathlib.Core.Path.{_≡_, refl, ap, ap₂, sym, _∙_}
 use mathlib.Core.List.{List, [], _∷_, _++_, map, append-assoc}
-use Prim.Native.Nat.{ℕ, zero, suc, _+_, _-_, _*_, _/_, _%_, _^_, _≤_, _<_}
-use native.Mathlib.Nat.{add-suc, zero-add, mod-one, pow-suc, one-le-pow, suc-mul, zero-mul}
+use Prim.Native.Nat.{ℕ, zero, suc, _+_, _*_, _/_, _%_, _^_, _≤_, _<_}
+use native.Mathlib.Nat.{mod-one, mod-lt, pow-suc, one-le-pow, suc-mul, zero-mul, add-zero, add-assoc}
 use native.Mathlib.Numerals.{add-one}
 use native.Mathlib.Omega.{arith}
 use lib.Arith.{mod-mul}
-use lib.ListN.{length, getD, take, drop, length-append}
-use lib.Seq.{drop-cons, take-add, drop-drop, getD-at}
-use Rattle.memory.specs.Bytes.{wordAt, wordsAt, bytes, bytesOf}
+use lib.ListN.{length, getD, set, take, drop, length-append}
+use lib.Seq.{sets, drop-cons, take-add, drop-drop, getD-at, getD-drop}
+use Rattle.memory.proofs.Lists.{fromAt, spread, front}
+use Rattle.memory.specs.Bytes.{wordAt, wordsAt, bytes, bytesOf, Bytes}
 
-module _ (s : List ℕ) (small : (i : ℕ) → getD s i 0 < 256) where
+module _ (s : List ℕ) (small : Bytes s) where
+  -- a word of k bytes is below 256^k
+  pub word-below : (k i : ℕ) → wordAt k s i < 256 ^ k
+  word-below zero i = omega arith
+  word-below (suc k) i = omega (arith, small i, word-below k (i + 1))
+
+  pub words-below : (k n i j : ℕ) → getD (wordsAt k n s i) j 0 < 256 ^ k
+  words-below k zero i j = one-le-pow k 256 (omega arith)
+  words-below k (suc n) i zero = word-below k i
+  words-below k (suc n) i (suc j) = words-below k n (i + k) j
+
   -- the bytes of the word at i are the bytes there
   pub bytes-word : (k i : ℕ) → i + k ≤ length s → bytes k (wordAt k s i) ≡ take k (drop i s)
   bytes-word zero i h = refl
@@ -51,6 +62,44 @@ pub length-bytes : (k x : ℕ) → length (bytes k x) ≡ k
 length-bytes zero x = refl
 length-bytes (suc k) x = ap suc (length-bytes k (x / 256))
 
+pub length-bytesOf : (k : ℕ) (v : List ℕ) → length (bytesOf k v) ≡ length v * k
+length-bytesOf k [] = sym (zero-mul k)
+length-bytesOf k (x ∷ v) = length-append (bytes k x) (bytesOf k v) ∙ ap₂ _+_ (length-bytes k x) (length-bytesOf k v) ∙ omega (arith, suc-mul (length v) k)
+
+pub bytesOf-append : (k : ℕ) (u v : List ℕ) → bytesOf k (u ++ v) ≡ bytesOf k u ++ bytesOf k v
+bytesOf-append k [] v = refl
+bytesOf-append k (x ∷ u) v = ap (λ (l : List ℕ). bytes k x ++ l) (bytesOf-append k u v) ∙ sym (append-assoc (bytes k x) (bytesOf k u) (bytesOf k v))
+
+-- ---- what words are written as are bytes
+
+pub append-bytes : (a b : List ℕ) → Bytes a → Bytes b → Bytes (a ++ b)
+append-bytes [] b f g i = g i
+append-bytes (x ∷ a) b f g zero = f 0
+append-bytes (x ∷ a) b f g (suc i) = append-bytes a b (λ j. f (suc j)) g i
+
+pub bytes-are : (k x : ℕ) → Bytes (bytes k x)
+bytes-are zero x i = omega arith
+bytes-are (suc k) x zero = mod-lt x (omega arith)
+bytes-are (suc k) x (suc i) = bytes-are k (x / 256) i
+
+pub bytesOf-are : (k : ℕ) (v : List ℕ) → Bytes (bytesOf k v)
+bytesOf-are k [] i = omega arith
+bytesOf-are k (x ∷ v) i = append-bytes (bytes k x) (bytesOf k v) (bytes-are k x) (bytesOf-are k v) i
+
+-- ---- words in the part of s that starts at j
+
+pub word-drop : (k j : ℕ) (s : List ℕ) (i : ℕ) → wordAt k (drop j s) i ≡ wordAt k s (j + i)
+word-drop zero j s i = refl
+word-drop (suc k) j s i =
+    ap₂ {C = ℕ} (λ x y. x + 256 * y) (getD-drop j s i 0) (word-drop k j s (i + 1) ∙ ap (wordAt k s) (sym (add-assoc j i 1)))
+
+pub words-drop : (k n j : ℕ) (s : List ℕ) (i : ℕ) → wordsAt k n (drop j s) i ≡ wordsAt k n s (j + i)
+words-drop k zero j s i = refl
+words-drop k (suc n) j s i =
+    ap₂ {B = List ℕ} {C = List ℕ} (λ x y. x ∷ y) (word-drop k j s i) (words-drop k n j s (i + k) ∙ ap (wordsAt k n s) (sym (add-assoc j i k)))
+
+-- ---- words from bytes that were written
+
 -- the words in the bytes of v are those of v, reduced
 pub words-bytes : (k : ℕ) (v p q : List ℕ) (i : ℕ) → length p ≡ i → wordsAt k (length v) (p ++ (bytesOf k v ++ q)) i ≡ map (λ (x : ℕ). x % 256 ^ k) v
 words-bytes k [] p q i e = refl
@@ -62,3 +111,37 @@ words-bytes k (x ∷ xs) p q i e =
     ∙ ap (λ (n : ℕ). n ∷ wordsAt k (length xs) (p ++ (bytes k x ++ r)) (i + k)) (word-bytes k x p r i e)
     ∙ ap (λ (t : List ℕ). x % 256 ^ k ∷ t)
     (ap (λ (t : List ℕ). wordsAt k (length xs) t (i + k)) (sym (append-assoc p (bytes k x) r)) ∙ words-bytes k xs (p ++ bytes k x) q (i + k) l)
+
+-- ---- words that are stored one after the other
+
+-- the words of v stored in l, k bytes each, as its words from number i on
+abbrev stores : ℕ → List ℕ → ℕ → List ℕ → List ℕ
+stores k l i [] = l
+stores k l i (x ∷ v) = stores k (sets l (i * k) (bytes k x)) (suc i) v
+
+sets-append : (a b l : List ℕ) (i : ℕ) → sets (sets l i a) (i + length a) b ≡ sets l i (a ++ b)
+sets-append [] b l i = ap (λ (n : ℕ). sets l n b) (add-zero i)
+sets-append (x ∷ a) b l i = ap (λ (n : ℕ). sets (sets (set l i x) (suc i) a) n b) (omega arith) ∙ sets-append a b (set l i x) (suc i)
+
+stores-sets : (k : ℕ) (v l : List ℕ) (i : ℕ) → stores k l i v ≡ sets l (i * k) (bytesOf k v)
+stores-sets k [] l i = refl
+stores-sets k (x ∷ v) l i =
+    let n : suc i * k ≡ i * k + length (bytes k x) = omega (arith, suc-mul i k, length-bytes k x) in
+    stores-sets k v (sets l (i * k) (bytes k x)) (suc i) ∙ ap (λ (j : ℕ). sets (sets l (i * k) (bytes k x)) j (bytesOf k v)) n
+    ∙ sets-append (bytes k x) (bytesOf k v) l (i * k)
+
+stores-front : (k : ℕ) (v l : List ℕ) → length v * k ≤ length l → stores k l 0 v ≡ bytesOf k v ++ drop (length v * k) l
+stores-front k v l h =
+    let n : length (bytesOf k v) ≡ length v * k = length-bytesOf k v in
+    stores-sets k v l 0 ∙ ap (λ (j : ℕ). sets l j (bytesOf k v)) (zero-mul k) ∙ front l (bytesOf k v) (omega arith)
+    ∙ ap (λ (j : ℕ). bytesOf k v ++ drop j l) n
+
+-- what eight stores leave that put the words of v one after the other from the start: the bytes of v, and then the rest
+pub eight-stores : (k : ℕ) (l v : List ℕ) → length v ≡ 8 → 8 * k ≤ length l → {a b c d e f g h : List ℕ}
+    → a ≡ sets l (0 * k) (bytes k (getD v 0 0)) → b ≡ sets a (1 * k) (bytes k (getD v 1 0)) → c ≡ sets b (2 * k) (bytes k (getD v 2 0))
+    → d ≡ sets c (3 * k) (bytes k (getD v 3 0)) → e ≡ sets d (4 * k) (bytes k (getD v 4 0)) → f ≡ sets e (5 * k) (bytes k (getD v 5 0))
+    → g ≡ sets f (6 * k) (bytes k (getD v 6 0)) → h ≡ sets g (7 * k) (bytes k (getD v 7 0)) → h ≡ bytesOf k v ++ drop (8 * k) l
+eight-stores k l v len fits {h = h} p q r s t u w x =
+    let all : h ≡ stores k l 0 (fromAt 8 v 0) = cc in
+    let room : length v * k ≤ length l = rw len fits in
+    all ∙ ap (stores k l 0) (spread 8 v len) ∙ stores-front k v l room ∙ ap (λ (n : ℕ). bytesOf k v ++ drop (n * k) l) len

@@ -1,6 +1,6 @@
 -- 001, Table 1.1, and document 01, "Words and vectors": words in bytes, word 0 first, each word's lowest byte first.
 use mathlib.Core.List.{List, [], _∷_, _++_}
-use Prim.Native.Nat.{ℕ, zero, suc, _+_, _*_, _/_, _%_}
+use Prim.Native.Nat.{ℕ, zero, suc, _+_, _*_, _/_, _%_, _<_}
 use lib.ListN.{getD}
 
 -- the word whose k bytes stand at offset i of s, lowest byte first
@@ -22,3 +22,7 @@ bytes (suc k) x = x % 256 ∷ bytes k (x / 256)
 abbrev pub bytesOf : ℕ → List ℕ → List ℕ
 bytesOf k [] = []
 bytesOf k (x ∷ v) = bytes k x ++ bytesOf k v
+
+-- every element is a byte
+abbrev pub Bytes : List ℕ → Type 0
+Bytes s = (i : ℕ) → getD s i 0 < 256

@@ -1,9 +1,10 @@
--- The code's hash in progress as the definitions' one, and what its operations return.
+-- The code's hash in progress as the definitions' one, and what its operations return. C's contracts cite `hashOf`, `narrowOf` and `fed`; `opened` only
+-- this crate's own.
 use mathlib.Core.List.{List}
 use Prim.Native.Nat.{ℕ}
 use Rattle.digest.specs.Kind.{narrowKind}
 use Rattle.digest.specs.State.{Hash, openAnswer, openState, feedAnswer, feedState}
-use Rattle.block.specs.Pipes.{pipe32}
+use Rattle.block32.specs.Pipes.{pipe32}
 use Rattle.narrow.specs.declared.Narrow.{Narrow}
 use Rattle.narrow.specs.declared.Outcome.{Outcome}
 

@@ -16,11 +16,11 @@ pub fn tail(buf: &mut [u8], w: &[u8], block: usize, mark: u8, bits: u64) -> usiz
     memory::copy_at(buf, w.len(), &m);
     if w.len() + 9 <= block {
         let at = block - 8;
-        memory::store64(buf, at, bits);
+        memory64::store(buf, at, bits);
         return block;
     }
     let size = block + block;
     let at = size - 8;
-    memory::store64(buf, at, bits);
+    memory64::store(buf, at, bits);
     size
 }

@@ -1,4 +1,5 @@
--- What opening and feeding leave of a hash that C lends, with the answer as C's number.
+-- What opening and feeding leave of a hash that C lends, with the answer as C's number. Only this crate's contracts cite these: C's say the same
+-- with the definitions of crates digest, narrow and wide.
 use mathlib.Core.List.{List}
 use Prim.Native.Nat.{ℕ}
 use Rattle.answer.specs.Number.{numberOf, markedNumber}

@@ -11,7 +11,8 @@ use Rattle.digest.specs.Padding.{padded}
 use Rattle.digest.specs.Kind.{narrowKind, wideKind}
 use Rattle.sheet.specs.Read.{readAt}
 use Rattle.sheet.specs.Sheet.{planOf}
-use Rattle.sheet.specs.Run.{Forward, runPlan, runAnswer, runBytes}
+use Rattle.sheet.specs.SheetAnswer.{sheetAnswer}
+use Rattle.sheet.specs.Run.{Forward, runAnswer, runBytes}
 
 abbrev oneToEight : List ℕ
 oneToEight = 1 ∷ 2 ∷ 3 ∷ 4 ∷ 5 ∷ 6 ∷ 7 ∷ 8 ∷ []
@@ -56,7 +57,7 @@ pub record Points : Type 0 where
   pub sheets-64 : SheetPoints 64
 
 pub points : Points
-unfolding rotl runPlan planOf readAt
+unfolding rotl sheetAnswer planOf readAt
 points =
     record {
       word = refl;

@@ -9,10 +9,11 @@ use lib.Bits.{bitXor}
 use lib.Pow.{pow-pos}
 use Rattle.word.specs.Word.{plus, minus, inverse}
 use Rattle.word.proofs.Inverse.{inverse-right}
-use Rattle.quasigroup.specs.Product.{pick, both, fold, first, sum, xor, others, sums, rotations, combinations, half, joined}
+use Rattle.quasigroup.specs.Product.{pick, both, fold, first, sum, xor, others, sums, combinations, half, joined}
 use Rattle.quasigroup.specs.Division.{fifths, dot, unsums, unhalf, separated}
 use Rattle.quasigroup.specs.Vector.{Below, Vector}
-use Rattle.quasigroup.proofs.Linear.{apply, mul, row, ident, gathers}
+use Rattle.quasigroup.specs.Square.{apply, mul, row, ident}
+use Rattle.quasigroup.proofs.Linear.{gathers}
 use Rattle.quasigroup.proofs.Xor.{odds}
 use Rattle.quasigroup.proofs.Modulo.{adds, subs, adds-mod}
 use Rattle.quasigroup.proofs.Sums.{Undone, total, ungathered, repeat-is}

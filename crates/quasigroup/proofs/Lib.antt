@@ -5,3 +5,5 @@ pub mod Sums
 pub mod Vectors
 pub mod Half
 pub mod Quasigroup
+pub mod Widths
+pub mod InBytes

@@ -1,7 +1,7 @@
 -- Lists of numbers modulo m: sums by a square, sums place by place, and what undoes them.
-use mathlib.Core.Path.{_≡_, refl, sym, ap, ap₂, _∙_}
-use Prim.Native.Nat.{ℕ, zero, suc, _+_, _-_, _*_, _/_, _%_, _<_}
-use native.Mathlib.Nat.{mod-lt, mod-mod, add-mod, add-comm, mul-add, mul-assoc, mod-eq-of-lt, div-add-mod', mul-add-mod-self-right, add-mul-mod-self-right, suc-inj}
+use mathlib.Core.Path.{_≡_, refl, ap, ap₂, _∙_}
+use Prim.Native.Nat.{ℕ, zero, suc, _+_, _-_, _%_, _<_}
+use native.Mathlib.Nat.{mod-lt, mod-mod, mod-eq-of-lt, suc-inj}
 use mathlib.Core.List.{List, [], _∷_, map}
 use lib.ListN.{length}
 use mathlib.Core.Bool.{Bool, true, false, _&&_}
@@ -9,7 +9,7 @@ use lib.Dec.{T, ltb, ltb→lt}
 use native.Mathlib.Omega.{arith}
 use Rattle.word.proofs.Modulo.{cong, whole}
 use Rattle.quasigroup.specs.Vector.{Below, none, more}
-use Rattle.quasigroup.proofs.Linear.{repeat, apply, act, add}
+use Rattle.quasigroup.specs.Square.{repeat, apply, act, add}
 
 -- whether every element is below m, as a test that is computed, for lists that are written out
 abbrev pub belowb : ℕ → List ℕ → Bool
@@ -69,12 +69,6 @@ module _ (m : ℕ) where
   adds-mod [] q = refl
   adds-mod (x ∷ p) [] = reduce-reduce (x ∷ p)
   adds-mod (x ∷ p) (y ∷ q) = ap₂ {B = List ℕ} (λ x l. x ∷ l) (cong m _ _ _ _ (mod-mod x m) refl) (adds-mod p q)
-
-  pub adds-comm : (p q : List ℕ) → adds p q ≡ adds q p
-  adds-comm [] [] = refl
-  adds-comm [] (y ∷ q) = refl
-  adds-comm (x ∷ p) [] = refl
-  adds-comm (x ∷ p) (y ∷ q) = ap₂ {B = List ℕ} (λ x l. x ∷ l) (ap (λ n. n % m) (add-comm x y)) (adds-comm p q)
 
   module _ (pos : zero < m) where
     pub adds-subs : (p q : List ℕ) → length p ≡ length q → adds (subs p q) q ≡ reduce m p

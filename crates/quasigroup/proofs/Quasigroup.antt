@@ -3,7 +3,7 @@ use mathlib.Core.Path.{_≡_, refl, sym, ap, ap₂, _∙_}
 use Prim.Native.Nat.{ℕ}
 use native.Mathlib.Omega.{arith}
 use mathlib.Core.List.{List}
-use Rattle.quasigroup.specs.Tables.{Width, leftSums, rightSums, narrow, wide}
+use Rattle.quasigroup.specs.Tables.{Width, leftSums, rightSums, width32, width64}
 use Rattle.quasigroup.specs.Product.{leftHalf, rightHalf, joined, product}
 use Rattle.quasigroup.specs.Division.{leftUnxors, rightUnxors, leftInverse, rightInverse, separated, unleft, unright, leftDivision, rightDivision}
 use Rattle.quasigroup.specs.Vector.{Vector}
@@ -15,7 +15,7 @@ use Rattle.quasigroup.proofs.Half.{Tables, half-undo, joined-comm, join
 left-tables : Tables leftSums leftUnxors leftInverse
 left-tables =
     record {
-      sums-undone = record { count = refl; wide = refl; after = refl; before = refl; columns = refl };
+      sums-undone = record { count = refl; rows = refl; after = refl; before = refl; columns = refl };
       count = refl;
       xors-undone = refl;
       unxors-undone = refl;
@@ -24,14 +24,14 @@ left-tables =
 right-tables : Tables rightSums rightUnxors rightInverse
 right-tables =
     record {
-      sums-undone = record { count = refl; wide = refl; after = refl; before = refl; columns = refl };
+      sums-undone = record { count = refl; rows = refl; after = refl; before = refl; columns = refl };
       count = refl;
       xors-undone = refl;
       unxors-undone = refl;
     }
 
-only : {w : ℕ} {f g : List ℕ → List ℕ} → Undo w f g → (b : List ℕ) → Vector w b → OnlySolution w f b (g b)
-only {g = g} u b h = record { vector = u .back b h; solves = u .right b h; unique = λ z k e. sym (u .left z k) ∙ ap g e }
+only : {w : ℕ} {f g : List ℕ → List ℕ} → Undo w f g → (b : List ℕ) → Vector w b → OnlySolution (Vector w) f b (g b)
+only {g = g} u b h = record { holds = u .back b h; solves = u .right b h; unique = λ z k e. sym (u .left z k) ∙ ap g e }
 
 -- a product from its halves
 pub from-halves : (s : Width) (x y : List ℕ) {l r z : List ℕ} → l ≡ leftHalf s x → r ≡ rightHalf s y → z ≡ joined (s .bits) l r → z ≡ product s x y
@@ -76,14 +76,14 @@ quasigroup s h =
       right = λ a b ha hb. only (by-right s h a ha) b hb;
     }
 
-pub narrow-admissible : Admissible narrow
-narrow-admissible = record { some = omega arith; left-eight = refl; right-eight = refl; left-within = below-test _ _ tt; right-within = below-test _ _ tt }
+pub admissible-32 : Admissible width32
+admissible-32 = record { some = omega arith; left-eight = refl; right-eight = refl; left-within = below-test _ _ tt; right-within = below-test _ _ tt }
 
-pub wide-admissible : Admissible wide
-wide-admissible = record { some = omega arith; left-eight = refl; right-eight = refl; left-within = below-test _ _ tt; right-within = below-test _ _ tt }
+pub admissible-64 : Admissible width64
+admissible-64 = record { some = omega arith; left-eight = refl; right-eight = refl; left-within = below-test _ _ tt; right-within = below-test _ _ tt }
 
-pub narrow-quasigroup : Quasigroup narrow
-narrow-quasigroup = quasigroup narrow narrow-admissible
+pub quasigroup-32 : Quasigroup width32
+quasigroup-32 = quasigroup width32 admissible-32
 
-pub wide-quasigroup : Quasigroup wide
-wide-quasigroup = quasigroup wide wide-admissible
+pub quasigroup-64 : Quasigroup width64
+quasigroup-64 = quasigroup width64 admissible-64

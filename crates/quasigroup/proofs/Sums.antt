@@ -7,7 +7,8 @@ use native.Mathlib.Nat.{mod-mod, add-assoc, add-comm, zero-add, zero-mul, suc-mu
 use mathlib.Core.List.{List, [], _∷_, map}
 use lib.ListN.{length, length-map, replicate}
 use native.Mathlib.Omega.{arith}
-use Rattle.quasigroup.proofs.Linear.{repeat, apply, act, mul, combine, add, row, ident, gathers, act-act, act-ident, gathers-act, apply-act, apply-add}
+use Rattle.quasigroup.specs.Square.{repeat, apply, act, mul, combine, add, row, ident}
+use Rattle.quasigroup.proofs.Linear.{gathers, act-act, act-ident, gathers-act, apply-act, apply-add}
 use Rattle.word.proofs.Modulo.{cong, mul-mod}
 use Rattle.quasigroup.specs.Product.{fold}
 use Rattle.quasigroup.proofs.Modulo.{reduce, reduce-reduce, act-mod}
@@ -54,7 +55,7 @@ eights = replicate 8 8
 -- what is computed of the places P that the sums take, and of K
 pub record Undone (P K : List (List ℕ)) : Type 0 where
   pub count : length P ≡ 8
-  pub wide : length K ≡ 8
+  pub rows : length K ≡ 8
   pub after : mul (map row P) (map (λ k. 1 ∷ k) K) ≡ map (λ r. 5 ∷ r) (map (λ r. add r eights) (ident 8))
   pub before : mul K (map row P) ≡ map (λ r. add r eights) (ident 8)
   pub columns : combine (replicate 8 1) (map row P) ≡ replicate 8 5

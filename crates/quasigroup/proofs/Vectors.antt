@@ -8,12 +8,12 @@ use lib.ListN.{length, getD, length-map}
 use lib.Pow.{pow-pos}
 use lib.Arith.{sub-sub-self}
 use lib.Bits.{bitXor, xor-lt, xor-zero-r, xor-zero-l, xor-comm}
-use Rattle.quasigroup.proofs.Linear.{act, add, mul, row, ident, gathers, gathers-act, act-ident}
+use Rattle.quasigroup.specs.Square.{act, add, mul, row, ident}
+use Rattle.quasigroup.proofs.Linear.{gathers, gathers-act, act-ident}
 use Rattle.quasigroup.proofs.Xor.{odds, xors-undo, xor-assoc}
-use Rattle.word.specs.Word.{rotl}
 use Rattle.word.proofs.Rotation.{rotl-lt, rotl-back}
-use Rattle.quasigroup.specs.Product.{pick, fold, both, rotations}
-use Rattle.quasigroup.specs.Vector.{Below, none, more, Vector}
+use Rattle.quasigroup.specs.Product.{pick, fold, rotations}
+use Rattle.quasigroup.specs.Vector.{Below, none, more, Vector, reversed}
 use Rattle.quasigroup.proofs.Modulo.{reduce, reduce-below, reduce-id, adds, subs, negate, adds-subs, subs-adds}
 use Rattle.quasigroup.proofs.Sums.{Undone, total, gathered, ungathered, gathered-ungathered, ungathered-gathered}
 
@@ -23,6 +23,9 @@ pub record Undo (w : ℕ) (f g : List ℕ → List ℕ) : Type 0 where
   pub back : (v : List ℕ) → Vector w v → Vector w (g v)
   pub left : (v : List ℕ) → Vector w v → g (f v) ≡ v
   pub right : (v : List ℕ) → Vector w v → f (g v) ≡ v
+
+pub turn : {w : ℕ} {f g : List ℕ → List ℕ} → Undo w f g → Undo w g f
+turn u = record { there = u .back; back = u .there; left = u .right; right = u .left }
 
 pub then : {w : ℕ} {f g f′ g′ : List ℕ → List ℕ} → Undo w f g → Undo w f′ g′ → Undo w (λ v. f′ (f v)) (λ v. g (g′ v))
 then {f = f} {g = g} {f′ = f′} {g′ = g′} p q =
@@ -93,7 +96,7 @@ module _ (w : ℕ) where
   gathered-undo t q ht P K h =
       record {
         there = λ v b. reduced w (gathers _+_ P v) (simp length-map (h .count));
-        back = λ v b. reduced w (act _+_ (map (λ a. 1 ∷ a) K) (t * total v ∷ v)) (simp length-map (h .wide));
+        back = λ v b. reduced w (act _+_ (map (λ a. 1 ∷ a) K) (t * total v ∷ v)) (simp length-map (h .rows));
         left = λ v b. ungathered-gathered (2 ^ w) t q ht P K h v (b .size) ∙ reduce-id (b .small);
         right = λ v b. gathered-ungathered (2 ^ w) t q ht P K h v (b .size) ∙ reduce-id (b .small);
       }
@@ -168,3 +171,7 @@ module _ (w : ℕ) where
 
   pub pick-undo : (p q : List ℕ) → Undo w (gathers bitXor (alone p)) (gathers bitXor (alone q)) → Undo w (pick p) (pick q)
   pick-undo p q u = undo-on (λ v h. pick-is p v) (λ v h. pick-is q v) u
+
+-- a reversed vector, reversed again
+pub reversed-undo : (w : ℕ) → Undo w reversed reversed
+reversed-undo w = let p : List ℕ = 7 ∷ 6 ∷ 5 ∷ 4 ∷ 3 ∷ 2 ∷ 1 ∷ 0 ∷ [] in pick-undo w p p (xor-undo w (alone p) (alone p) refl refl refl refl)

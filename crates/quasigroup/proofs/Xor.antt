@@ -7,7 +7,8 @@ use lib.ListN.{length}
 use native.Mathlib.Omega.{arith}
 use lib.Arith.{bin-ind, digits-mod}
 use lib.Bits.{bitXor, differ, xor-step, xor-shr, xor-comm, xor-self, xor-zero-l}
-use Rattle.quasigroup.proofs.Linear.{repeat, apply, act, mul, row, ident, gathers, act-act, act-ident, gathers-act}
+use Rattle.quasigroup.specs.Square.{repeat, apply, act, mul, row, ident}
+use Rattle.quasigroup.proofs.Linear.{gathers, act-act, act-ident, gathers-act}
 
 two-pos : zero < 2
 two-pos = zero-lt-suc 1

@@ -3,7 +3,7 @@ use mathlib.Core.List.{List, [], _∷_, map}
 use Prim.Native.Nat.{ℕ, _+_, _-_, _*_, _%_, _^_}
 use lib.ListN.{getD}
 use Rattle.word.specs.Word.{minus, inverse}
-use Rattle.quasigroup.specs.Tables.{Width}
+use Rattle.quasigroup.specs.Tables.{Width, rightSums}
 use Rattle.quasigroup.specs.Product.{pick, both, fold, first, xor, rotations, leftHalf, rightHalf}
 
 -- the inverse of the XOR step over single bits: rotated sum i is the XOR of the combinations whose numbers list i has
@@ -19,17 +19,10 @@ leftUnxors =
     ∷ (0 ∷ 1 ∷ 3 ∷ 6 ∷ 7 ∷ [])
     ∷ []
 
+-- The right half's XOR step is J - A, where A is its square of sums and J is all ones. A A = I + 3 J and J A = 5 J over the whole numbers, so
+-- (J - A) A = 2 J - I, which is I over single bits: the square of sums itself is the inverse.
 abbrev pub rightUnxors : List (List ℕ)
-rightUnxors =
-    (0 ∷ 1 ∷ 2 ∷ 5 ∷ 7 ∷ [])
-    ∷ (0 ∷ 1 ∷ 3 ∷ 4 ∷ 6 ∷ [])
-    ∷ (0 ∷ 1 ∷ 2 ∷ 3 ∷ 5 ∷ [])
-    ∷ (2 ∷ 3 ∷ 4 ∷ 6 ∷ 7 ∷ [])
-    ∷ (0 ∷ 1 ∷ 3 ∷ 4 ∷ 5 ∷ [])
-    ∷ (2 ∷ 4 ∷ 5 ∷ 6 ∷ 7 ∷ [])
-    ∷ (1 ∷ 2 ∷ 5 ∷ 6 ∷ 7 ∷ [])
-    ∷ (0 ∷ 3 ∷ 4 ∷ 6 ∷ 7 ∷ [])
-    ∷ []
+rightUnxors = rightSums
 
 -- The inverse of a square of sums A modulo 2^w is K + t J, where J is all ones, K is one of these two squares and A K = I + 8 J over the
 -- whole numbers. A J = 5 J, so t is the number with 5 t + 8 = 0 modulo 2^w.
@@ -45,6 +38,7 @@ leftInverse =
     ∷ (2 ∷ 2 ∷ 1 ∷ 2 ∷ 1 ∷ 1 ∷ 2 ∷ 2 ∷ [])
     ∷ []
 
+-- entry for entry one more than the right square of sums, since A (A + J) = I + 3 J + 5 J
 abbrev pub rightInverse : List (List ℕ)
 rightInverse =
     (2 ∷ 2 ∷ 2 ∷ 1 ∷ 1 ∷ 2 ∷ 1 ∷ 2 ∷ [])
@@ -61,7 +55,7 @@ rightInverse =
 abbrev pub fifths : ℕ → ℕ
 fifths w = 2 * inverse w 5 + 2 * (2 ^ w - 1)
 
--- a row of a square times a vector
+-- a row of a square times a vector: `apply _+_` of Square.antt, with products for repeated sums (`dot-is`, proofs/Half.antt)
 abbrev pub dot : List ℕ → List ℕ → ℕ
 dot [] v = 0
 dot (a ∷ r) [] = 0

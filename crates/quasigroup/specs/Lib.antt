@@ -2,4 +2,5 @@ pub mod Tables
 pub mod Product
 pub mod Division
 pub mod Vector
+pub mod Square
 pub mod Theorem

@@ -1,5 +1,5 @@
 -- The product X*Y of two vectors of eight words, step by step as 001, Tables 2.1 and 2.2, and document 01, "The product", have it.
-use mathlib.Core.Bool.{Bool, true, false}
+use mathlib.Core.Bool.{cond}
 use mathlib.Core.List.{List, [], _∷_, map}
 use Prim.Native.Nat.{ℕ, _+_, _%_, _^_}
 use lib.Bits.{bitXor}
@@ -30,13 +30,9 @@ sum w k l = (fold _+_ l + k) % 2 ^ w
 unfoldable pub xor : List ℕ → ℕ
 xor l = fold bitXor l
 
-abbrev choose : Bool → List ℕ → List ℕ → List ℕ
-choose true a b = a
-choose false a b = b
-
 abbrev without : ℕ → List ℕ → List ℕ
 without k [] = []
-without k (i ∷ p) = choose (eqb i k) (without k p) (i ∷ without k p)
+without k (i ∷ p) = cond (eqb i k) (without k p) (i ∷ without k p)
 
 -- the numbers 0 to 7 that are not in the list
 abbrev pub others : List ℕ → List ℕ

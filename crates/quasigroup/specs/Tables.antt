@@ -1,5 +1,5 @@
 -- Document 01, "The product", and 001, Tables 2.1 to 2.3: which words enter each sum, and what differs from width to width.
-use mathlib.Core.Bool.{Bool, true, false, _||_}
+use mathlib.Core.Bool.{Bool, cond, _||_}
 use mathlib.Core.List.{List, [], _∷_}
 use Prim.Native.Nat.{ℕ}
 use lib.Dec.{eqb}
@@ -49,8 +49,8 @@ pub record Width : Type 0 where
   pub rightAmounts : List ℕ
 
 -- 001, Table 2.1
-abbrev pub narrow : Width
-narrow =
+abbrev pub width32 : Width
+width32 =
     record {
       bits = 32;
       leftConstant = 0xaaaa_aaaa;
@@ -60,8 +60,8 @@ narrow =
     }
 
 -- 001, Table 2.2
-abbrev pub wide : Width
-wide =
+abbrev pub width64 : Width
+width64 =
     record {
       bits = 64;
       leftConstant = 0xaaaa_aaaa_aaaa_aaaa;
@@ -70,14 +70,10 @@ wide =
       rightAmounts = getD amounts 3 [];
     }
 
-abbrev choose : Bool → Width → Width → Width
-choose true a b = a
-choose false a b = b
-
 -- the width of 64 or else of 32 bits, by its number
 abbrev pub widthOf : ℕ → Width
-widthOf w = choose (eqb w 64) wide narrow
+widthOf w = cond (eqb w 64) width64 width32
 
 -- the widths that there are
-abbrev pub known : ℕ → Bool
-known w = eqb w 32 || eqb w 64
+abbrev pub knownWidth : ℕ → Bool
+knownWidth w = eqb w 32 || eqb w 64

@@ -8,16 +8,16 @@ use Rattle.quasigroup.specs.Product.{product}
 use Rattle.quasigroup.specs.Division.{leftDivision, rightDivision}
 use Rattle.quasigroup.specs.Vector.{Below, Vector}
 
--- of the vectors, x is the one that f takes to b
-pub record OnlySolution (w : ℕ) (f : List ℕ → List ℕ) (b x : List ℕ) : Type 0 where
-  pub vector : Vector w x
+-- of the lists for which P holds, x is the one that f takes to b
+pub record OnlySolution (P : List ℕ → Type 0) (f : List ℕ → List ℕ) (b x : List ℕ) : Type 0 where
+  pub holds : P x
   pub solves : f x ≡ b
-  pub unique : (z : List ℕ) → Vector w z → f z ≡ b → z ≡ x
+  pub unique : (z : List ℕ) → P z → f z ≡ b → z ≡ x
 
 pub record Quasigroup (s : Width) : Type 0 where
   pub closed : (x y : List ℕ) → Vector (s .bits) x → Vector (s .bits) y → Vector (s .bits) (product s x y)
-  pub left : (a b : List ℕ) → Vector (s .bits) a → Vector (s .bits) b → OnlySolution (s .bits) (λ x. product s a x) b (leftDivision s a b)
-  pub right : (a b : List ℕ) → Vector (s .bits) a → Vector (s .bits) b → OnlySolution (s .bits) (λ y. product s y a) b (rightDivision s b a)
+  pub left : (a b : List ℕ) → Vector (s .bits) a → Vector (s .bits) b → OnlySolution (Vector (s .bits)) (λ x. product s a x) b (leftDivision s a b)
+  pub right : (a b : List ℕ) → Vector (s .bits) a → Vector (s .bits) b → OnlySolution (Vector (s .bits)) (λ y. product s y a) b (rightDivision s b a)
 
 -- what the theorem asks of a width: at least one bit, and eight rotation amounts a half, none above the width
 pub record Admissible (s : Width) : Type 0 where

@@ -5,7 +5,7 @@ use answer::Answer;
 use answer::Refusal;
 
 // The largest total of bytes.
-const LIMIT: u64 = 2305843009213693951;
+pub const LIMIT: u64 = 2305843009213693951;
 
 pub fn is_size(small: u64, large: u64, size: u64) -> bool
     ensures { λ r. ⌜ r ≡ isSize small large size ⌝ }

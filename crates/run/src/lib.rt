@@ -2,61 +2,45 @@
 ghost use mathlib.Core.Path.{_≡_};
 ghost use mathlib.Core.Bool.{true};
 ghost use mathlib.Core.List.{reverse};
-ghost use Prim.Native.Nat.{_*_, _<_, _≤_};
+ghost use Prim.Native.Nat.{_*_, _≤_};
+ghost use lib.Dec.{eqb};
 ghost use lib.ListN.{length, take};
-ghost use Rattle.quasigroup.specs.Tables.{known};
+ghost use Rattle.quasigroup.specs.Tables.{knownWidth};
 ghost use Rattle.sheet.specs.Read.{placeCount};
 ghost use Rattle.sheet.specs.Sheet.{scanFrom};
-ghost use Rattle.sheet.specs.Effect.{effect};
 ghost use Rattle.sheet.specs.Run.{Forward, Backward, step, steps, vectorsIn, runAnswer, runBytes};
-ghost use Rattle.sheet.specs.Sound.{SoundCommand};
 use answer::Answer;
 use answer::Refusal;
-use sheet::Command;
 use sheet::MOST;
 use sheet::PLACES;
 use sheet::Read;
 use sheet::Summary;
 
-mod narrow;
-mod wide;
-
-fn wide16(x: u16) -> usize
+fn from_u16(x: u16) -> usize
     ensures { λ r. ⌜ r ≡ x ⌝ }
 {
     x as usize
 }
 
-// The number of bytes in which the vectors are lent.
-fn lent_size(width: u32) -> usize
-    ensures { λ r. ⌜ r ≡ placeCount * width ⌝ }
+// Whether `n` bytes are those of the vectors.
+fn vectors_fit(width: u32, n: usize) -> bool
+    ensures { λ r. ⌜ r ≡ eqb n (placeCount * width) ⌝ }
 {
-    PLACES * (width as usize)
-}
-
-// The vectors after a command.
-fn apply(width: u32, sheet: &[u8], c: Command, vectors: &mut [u8])
-    requires { ⌜ (known width ≡ true) × (length (now vectors) ≡ placeCount * width) × SoundCommand width (length (now sheet)) c ⌝ }
-    ensures { λ _. ⌜ vectorsIn width (now (vectors .exit)) ≡ effect width (now (sheet .entry)) c (vectorsIn width (now (vectors .entry))) ⌝ }
-{
-    if width == 32 {
-        narrow::apply(sheet, c, vectors);
-    } else {
-        wide::apply(sheet, c, vectors);
-    }
+    n == PLACES * (width as usize)
 }
 
 // The vectors after the commands of a sheet, up to its end or its first fault.
 fn forward(width: u32, sheet: &[u8], vectors: &mut [u8])
-    requires { ⌜ (known width ≡ true) × (length (now vectors) ≡ placeCount * width) ⌝ }
-    ensures { λ _. ⌜ vectorsIn width (now (vectors .exit)) ≡ steps Forward width (now (sheet .entry)) (scanFrom (length (now (sheet .entry))) width (now (sheet .entry)) 0 .offsets) (vectorsIn width (now (vectors .entry))) ⌝ }
+    requires { ⌜ (knownWidth width ≡ true) × (length (now vectors) ≡ placeCount * width) ⌝ }
+    ensures { λ _. let s = now (sheet .entry) in ⌜ vectorsIn width (now (vectors .exit)) ≡ steps Forward width s (scanFrom (length s) width s 0 .offsets) (vectorsIn width (now (vectors .entry))) ⌝ }
 {
     let mut at = 0;
     loop {
-        match sheet::read_command(width, sheet, at) {
-            Read::Got(c, next) => {
-                apply(width, sheet, c, vectors);
-                at = next;
+        match reader::read_command(width, sheet, at) {
+            Read::Got(d) => {
+                let c = d.command;
+                effect::apply(width, sheet, c, vectors);
+                at = d.next;
             }
             Read::Fault(_) => return,
             Read::End => return,
@@ -66,11 +50,15 @@ fn forward(width: u32, sheet: &[u8], vectors: &mut [u8])
 
 // The vectors after the command at an offset is undone.
 fn undo(width: u32, sheet: &[u8], at: usize, vectors: &mut [u8])
-    requires { ⌜ (known width ≡ true) × (length (now vectors) ≡ placeCount * width) ⌝ }
+    requires { ⌜ (knownWidth width ≡ true) × (length (now vectors) ≡ placeCount * width) ⌝ }
     ensures { λ _. ⌜ vectorsIn width (now (vectors .exit)) ≡ step Backward width (now (sheet .entry)) at (vectorsIn width (now (vectors .entry))) ⌝ }
 {
-    match sheet::read_command(width, sheet, at) {
-        Read::Got(c, _) => apply(width, sheet, sheet::opposite(c), vectors),
+    match reader::read_command(width, sheet, at) {
+        Read::Got(d) => {
+            let c = d.command;
+            let back = reader::opposite(c);
+            effect::apply(width, sheet, back, vectors)
+        }
         Read::Fault(_) => return,
         Read::End => return,
     }
@@ -78,28 +66,28 @@ fn undo(width: u32, sheet: &[u8], at: usize, vectors: &mut [u8])
 
 // The vectors after the commands at the first `n` offsets are undone, the last one first.
 fn backward(width: u32, sheet: &[u8], offsets: &[u16], n: usize, vectors: &mut [u8])
-    requires { ⌜ (known width ≡ true) × (length (now vectors) ≡ placeCount * width) × (n ≤ length (now offsets)) ⌝ }
-    ensures { λ _. ⌜ vectorsIn width (now (vectors .exit)) ≡ steps Backward width (now (sheet .entry)) (reverse (take n (now (offsets .entry)))) (vectorsIn width (now (vectors .entry))) ⌝ }
+    requires { ⌜ (knownWidth width ≡ true) × (length (now vectors) ≡ placeCount * width) × (n ≤ length (now offsets)) ⌝ }
+    ensures { λ _. let l = reverse (take n (now (offsets .entry))) in ⌜ vectorsIn width (now (vectors .exit)) ≡ steps Backward width (now (sheet .entry)) l (vectorsIn width (now (vectors .entry))) ⌝ }
 {
     let mut done = 0;
     while done < n {
         let last = n - 1 - done;
-        undo(width, sheet, wide16(offsets[last]), vectors);
+        undo(width, sheet, from_u16(offsets[last]), vectors);
         done += 1;
     }
 }
 
 // A forward run at a width of document 01's.
 fn forward_at(width: u32, vectors: &mut [u8], sheet: &[u8]) -> Answer
-    requires { ⌜ known width ≡ true ⌝ }
+    requires { ⌜ knownWidth width ≡ true ⌝ }
     ensures { λ r. ⌜ r ≡ runAnswer width (now (sheet .entry)) (now (vectors .entry)) ⌝ }
     ensures { λ r. ⌜ now (vectors .exit) ≡ runBytes Forward width (now (sheet .entry)) (now (vectors .entry)) ⌝ }
 {
-    if vectors.len() != lent_size(width) {
+    if !vectors_fit(width, vectors.len()) {
         return Answer::Refused(Refusal::Operand, 0);
     }
     let mut none = [0u16; 0];
-    match sheet::check(width, sheet, &mut none) {
+    match scanner::check(width, sheet, &mut none) {
         Summary::Whole(_, work) => {
             forward(width, sheet, vectors);
             Answer::Done(work)
@@ -110,15 +98,15 @@ fn forward_at(width: u32, vectors: &mut [u8], sheet: &[u8]) -> Answer
 
 // A backward run at a width of document 01's. The offsets are remembered, so that its time is linear.
 fn backward_at(width: u32, vectors: &mut [u8], sheet: &[u8]) -> Answer
-    requires { ⌜ known width ≡ true ⌝ }
+    requires { ⌜ knownWidth width ≡ true ⌝ }
     ensures { λ r. ⌜ r ≡ runAnswer width (now (sheet .entry)) (now (vectors .entry)) ⌝ }
     ensures { λ r. ⌜ now (vectors .exit) ≡ runBytes Backward width (now (sheet .entry)) (now (vectors .entry)) ⌝ }
 {
-    if vectors.len() != lent_size(width) {
+    if !vectors_fit(width, vectors.len()) {
         return Answer::Refused(Refusal::Operand, 0);
     }
     let mut offsets = [0u16; MOST];
-    match sheet::check(width, sheet, &mut offsets) {
+    match scanner::check(width, sheet, &mut offsets) {
         Summary::Whole(n, work) => {
             backward(width, sheet, &offsets, n, vectors);
             Answer::Done(work)

@@ -1,4 +1,4 @@
--- `length s` steps are enough for a scan. Assumes nothing.
+-- `length s` steps are enough for a scan.
 use mathlib.Core.Path.{_≡_, refl, sym, ap, _∙_}
 use mathlib.Core.List.{List}
 use Prim.Native.Nat.{ℕ, zero, suc, _-_, _≤_}
@@ -11,23 +11,22 @@ use Rattle.sheet.specs.Sheet.{Plan, behind, continue, scanFrom}
 use Rattle.sheet.specs.Enough.{PlanFrom, at-command, at-fault, at-end, StepsEnough}
 use Rattle.sheet.specs.Sound.{SoundRead}
 use Rattle.sheet.proofs.Sound.{read-sound}
-use Rattle.sheet.proofs.Cases.{ended}
-use Rattle.sheet.proofs.Scanning.{scan-end}
+use Rattle.sheet.proofs.Scan.{read-end, scan-end}
 use Rattle.sheet.proofs.Rest.{enough, rest-got, rest-fault}
 
 module _ (w : ℕ) (s : List ℕ) where
   plan-with : (f i : ℕ) (r : Read) → readAt w s i ≡ r → SoundRead w (length s) i r → length s - i ≤ suc f
       → ((n : ℕ) → length s - n ≤ f → PlanFrom w s n (scanFrom f w s n)) → PlanFrom w s i (continue r i (scanFrom f w s))
-  plan-with f i (Got c n) e h l k = at-command e (k n (omega (arith, h .on)))
+  plan-with f i (Got d) e h l k = at-command e (k (d .next) (omega (arith, h .on)))
   plan-with f i (Fault r) e h l k = at-fault e
   plan-with f i End e h l k = at-end e
 
   plan-from : (f i : ℕ) → length s - i ≤ f → PlanFrom w s i (scanFrom f w s i)
-  plan-from zero i h = at-end (sym (ended w s i (omega arith)))
+  plan-from zero i h = at-end (read-end w s i (omega arith))
   plan-from (suc f) i h = plan-with f i (readAt w s i) refl (read-sound w s i) h (plan-from f)
 
   only-plan : {i : ℕ} {p : Plan} → PlanFrom w s i p → p ≡ scanFrom (length s) w s i
-  only-plan (at-command {i} {n} {c} e h) = ap (behind i) (only-plan h) ∙ sym (rest-got w s i c n e)
+  only-plan (at-command {i} {d} e h) = ap (behind i) (only-plan h) ∙ sym (rest-got w s i d e)
   only-plan (at-fault {i} {r} e) = sym (rest-fault w s i r e)
   only-plan (at-end {i} e) = sym (scan-end w s (length s) i e)
 

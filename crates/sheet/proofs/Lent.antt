@@ -1,60 +1,25 @@
--- The lent bytes as vectors and back. Assumes nothing.
+-- The lent bytes as vectors and back.
 use mathlib.Core.Path.{_≡_, refl, sym, ap, ap₂, _∙_, subst}
-use mathlib.Core.List.{List, [], _∷_, _++_, map, append-assoc}
-use Prim.Native.Nat.{ℕ, zero, suc, _+_, _*_, _/_, _%_, _^_, _≤_, _<_, suc-le-suc}
-use native.Mathlib.Nat.{zero-mul, suc-mul, mod-lt, zero-lt-suc, one-le-pow}
+use mathlib.Core.List.{List, [], _∷_, _++_, append-assoc}
+use Prim.Native.Nat.{ℕ, zero, suc, _+_, _*_, _/_, _≤_, _<_, suc-le-suc}
+use native.Mathlib.Nat.{zero-mul, suc-mul, zero-lt-suc}
 use native.Mathlib.Decide.{ℕ-discrete}
 use native.Mathlib.Omega.{arith}
-use lib.ListN.{length, getD, set, take, drop, length-append, length-set}
+use lib.ListN.{length, set, take, drop, length-append, length-set}
 use lib.Seq.{take-add, drop-drop, take-all, getD-set-same, getD-set-other, drop-at, take-append-add, drop-append-add}
-use Rattle.memory.specs.Bytes.{wordAt, wordsAt, bytes, bytesOf}
-use Rattle.memory.proofs.Bytes.{bytes-words, words-bytes, length-bytes}
-use Rattle.quasigroup.specs.Vector.{Below, Vector}
-use Rattle.quasigroup.proofs.Modulo.{reduce-id}
-use Rattle.quasigroup.proofs.Vectors.{below-of}
+use Rattle.memory.specs.Bytes.{wordsAt, bytesOf, Bytes}
+use Rattle.memory.proofs.Bytes.{append-bytes, bytesOf-are}
+use Rattle.quasigroup.specs.Vector.{Vector}
+use Rattle.quasigroup.proofs.Widths.{Bytewise}
+use Rattle.quasigroup.proofs.InBytes.{vector-at, vector-length, words-back, bytes-back}
 use Rattle.sheet.specs.Read.{placeCount}
 use Rattle.sheet.specs.Effect.{at, vectorAt}
 use Rattle.sheet.specs.Run.{vectorsFrom, vectorBytes}
-use Rattle.sheet.specs.Home.{Bytes}
-
--- a word of w bits is a whole number of bytes, and eight words take w bytes
-pub record Bytewise (w : ℕ) : Type 0 where
-  pub power : 256 ^ (w / 8) ≡ 2 ^ w
-  pub eight : 8 * (w / 8) ≡ w
 
 -- every vector is one
 pub record State (w : ℕ) (v : List (List ℕ)) : Type 0 where
   pub size : length v ≡ placeCount
   pub each : (i : ℕ) → i < placeCount → Vector w (at v i)
-
--- ---- words and bytes
-
-word-below : (s : List ℕ) → Bytes s → (k i : ℕ) → wordAt k s i < 256 ^ k
-word-below s h zero i = omega arith
-word-below s h (suc k) i = omega (arith, h i, word-below s h k (i + 1))
-
-words-below : (s : List ℕ) → Bytes s → (k n i j : ℕ) → getD (wordsAt k n s i) j 0 < 256 ^ k
-words-below s h k zero i j = one-le-pow k 256 (omega arith)
-words-below s h k (suc n) i zero = word-below s h k i
-words-below s h k (suc n) i (suc j) = words-below s h k n (i + k) j
-
-bytes-append : (a b : List ℕ) → Bytes a → Bytes b → Bytes (a ++ b)
-bytes-append [] b f g i = g i
-bytes-append (x ∷ a) b f g zero = f 0
-bytes-append (x ∷ a) b f g (suc i) = bytes-append a b (λ j. f (suc j)) g i
-
-bytes-are : (k x : ℕ) → Bytes (bytes k x)
-bytes-are zero x i = omega arith
-bytes-are (suc k) x zero = mod-lt x (omega arith)
-bytes-are (suc k) x (suc i) = bytes-are k (x / 256) i
-
-bytesOf-are : (k : ℕ) (x : List ℕ) → Bytes (bytesOf k x)
-bytesOf-are k [] i = omega arith
-bytesOf-are k (y ∷ x) i = bytes-append (bytes k y) (bytesOf k x) (bytes-are k y) (bytesOf-are k x) i
-
-length-bytesOf : (k : ℕ) (x : List ℕ) → length (bytesOf k x) ≡ length x * k
-length-bytesOf k [] = sym (zero-mul k)
-length-bytesOf k (y ∷ x) = length-append (bytes k y) (bytesOf k x) ∙ ap₂ _+_ (length-bytes k y) (length-bytesOf k x) ∙ omega (arith, suc-mul (length x) k)
 
 -- ---- a list of vectors
 
@@ -73,21 +38,20 @@ set-state {w} {v} st d x h hx =
 pub at-from : (w n : ℕ) (b : List ℕ) (o i : ℕ) → i < n → at (vectorsFrom w n b o) i ≡ vectorAt w b (o + i * w)
 at-from w zero b o i h = absurd (omega arith)
 at-from w (suc n) b o zero h = let e : o ≡ o + 0 * w = omega (arith, zero-mul w) in ap (vectorAt w b) e
-at-from w (suc n) b o (suc i) h = let e : o + w + i * w ≡ o + suc i * w = omega (arith, suc-mul i w) in at-from w n b (o + w) i (omega arith) ∙ ap (vectorAt w b) e
+at-from w (suc n) b o (suc i) h =
+    let e : o + w + i * w ≡ o + suc i * w = omega (arith, suc-mul i w) in
+    at-from w n b (o + w) i (omega arith) ∙ ap (vectorAt w b) e
 
 module _ (w : ℕ) (hw : Bytewise w) where
-  vector-length : (x : List ℕ) → length x ≡ 8 → length (bytesOf (w / 8) x) ≡ w
-  vector-length x e = length-bytesOf (w / 8) x ∙ ap (λ (n : ℕ). n * (w / 8)) e ∙ hw .eight
-
   pub bytes-of-vectors : (v : List (List ℕ)) → Bytes (vectorBytes w v)
   bytes-of-vectors [] i = omega arith
-  bytes-of-vectors (x ∷ v) i = bytes-append (bytesOf (w / 8) x) (vectorBytes w v) (bytesOf-are (w / 8) x) (bytes-of-vectors v) i
+  bytes-of-vectors (x ∷ v) i = append-bytes (bytesOf (w / 8) x) (vectorBytes w v) (bytesOf-are (w / 8) x) (bytes-of-vectors v) i
 
   length-vectorBytes : (v : List (List ℕ)) → ((i : ℕ) → i < length v → Vector w (at v i)) → length (vectorBytes w v) ≡ length v * w
   length-vectorBytes [] h = sym (zero-mul w)
   length-vectorBytes (x ∷ v) h =
       length-append (bytesOf (w / 8) x) (vectorBytes w v)
-      ∙ ap₂ _+_ (vector-length x (h 0 (zero-lt-suc (length v)) .size)) (length-vectorBytes v (λ i l. h (suc i) (suc-le-suc l)))
+      ∙ ap₂ _+_ (vector-length w hw x (h 0 (zero-lt-suc (length v)) .size)) (length-vectorBytes v (λ i l. h (suc i) (suc-le-suc l)))
       ∙ omega (arith, suc-mul (length v) w)
 
   -- the vectors in the bytes of vectors
@@ -97,10 +61,8 @@ module _ (w : ℕ) (hw : Bytewise w) where
   vectors-bytes-at (x ∷ v) h p i e =
       let k = w / 8 in
       let hx : Vector w x = h 0 (zero-lt-suc (length v)) in
-      let here : wordsAt k 8 (p ++ (bytesOf k x ++ vectorBytes w v)) i ≡ x =
-      subst (λ (n : ℕ). wordsAt k n (p ++ (bytesOf k x ++ vectorBytes w v)) i ≡ map (λ (y : ℕ). y % 256 ^ k) x) (hx .size) (words-bytes k x p (vectorBytes w v) i e)
-      ∙ reduce-id (subst (λ (m : ℕ). Below m x) (sym (hw .power)) (hx .small)) in
-      let l : length (p ++ bytesOf k x) ≡ i + w = length-append p (bytesOf k x) ∙ ap₂ _+_ e (vector-length x (hx .size)) in
+      let here : wordsAt k 8 (p ++ (bytesOf k x ++ vectorBytes w v)) i ≡ x = words-back w hw x hx p (vectorBytes w v) i e in
+      let l : length (p ++ bytesOf k x) ≡ i + w = length-append p (bytesOf k x) ∙ ap₂ _+_ e (vector-length w hw x (hx .size)) in
       ap₂ {B = List (List ℕ)} (λ a b. a ∷ b) here
       (ap (λ (t : List ℕ). vectorsFrom w (length v) t (i + w)) (sym (append-assoc p (bytesOf k x) (vectorBytes w v)))
       ∙ vectors-bytes-at v (λ j m. h (suc j) (suc-le-suc m)) (p ++ bytesOf k x) (i + w) l)
@@ -114,22 +76,14 @@ module _ (w : ℕ) (hw : Bytewise w) where
   pub state-length : (v : List (List ℕ)) → State w v → length (vectorBytes w v) ≡ placeCount * w
   state-length v st = length-vectorBytes v (each-of st) ∙ ap (λ (n : ℕ). n * w) (st .size)
 
-  -- the vector at an offset of bytes is one
-  pub vector-at : (s : List ℕ) → Bytes s → (i : ℕ) → Vector w (vectorAt w s i)
-  vector-at s h i =
-      record { size = refl; small = below-of (2 ^ w) (vectorAt w s i) (λ j _. subst (λ (m : ℕ). getD (vectorAt w s i) j 0 < m) (hw .power) (words-below s h (w / 8) 8 i j)) }
-
   module _ (b : List ℕ) (hb : Bytes b) where
     -- the bytes of the vectors in bytes
     bytes-vectors-at : (n i : ℕ) → i + n * w ≤ length b → vectorBytes w (vectorsFrom w n b i) ≡ take (n * w) (drop i b)
     bytes-vectors-at zero i h = rw (zero-mul w)
     bytes-vectors-at (suc n) i h =
-        let k = w / 8 in
-        let f : 8 * k ≡ w = hw .eight in
         let e : suc n * w ≡ w + n * w = suc-mul n w ∙ omega arith in
         let r : i + w + n * w ≤ length b = omega arith in
-        let q : i + 8 * k ≤ length b = omega arith in
-        ap₂ {B = List ℕ} (λ x y. x ++ y) (bytes-words b hb k 8 i q ∙ ap (λ (n : ℕ). take n (drop i b)) f)
+        ap₂ {B = List ℕ} (λ x y. x ++ y) (bytes-back w hw b hb i (omega arith))
         (bytes-vectors-at n (i + w) r ∙ ap (take (n * w)) (sym (drop-drop w i b)))
         ∙ sym (take-add w (n * w) (drop i b)) ∙ ap (λ (j : ℕ). take j (drop i b)) (sym e)
 
@@ -138,7 +92,7 @@ module _ (w : ℕ) (hw : Bytewise w) where
 
     each-from : (n i j : ℕ) → j < n → Vector w (at (vectorsFrom w n b i) j)
     each-from zero i j l = absurd (omega arith)
-    each-from (suc n) i zero l = vector-at b hb i
+    each-from (suc n) i zero l = vector-at w hw b hb i
     each-from (suc n) i (suc j) l = each-from n (i + w) j (omega arith)
 
     length-from : (n i : ℕ) → length (vectorsFrom w n b i) ≡ n
@@ -154,14 +108,15 @@ module _ (w : ℕ) (hw : Bytewise w) where
   bytes-set [] h d x l = absurd (omega arith)
   bytes-set (y ∷ v) h zero x l =
       let z : 0 * w ≡ 0 = zero-mul w in
-      let r : vectorBytes w v ≡ drop w (bytesOf (w / 8) y ++ vectorBytes w v) = sym (drop-at (bytesOf (w / 8) y) (vectorBytes w v) w (vector-length y (h 0 (zero-lt-suc (length v)) .size))) in
+      let lp : length (bytesOf (w / 8) y) ≡ w = vector-length w hw y (h 0 (zero-lt-suc (length v)) .size) in
+      let r : vectorBytes w v ≡ drop w (bytesOf (w / 8) y ++ vectorBytes w v) = sym (drop-at (bytesOf (w / 8) y) (vectorBytes w v) w lp) in
       let s : w ≡ 0 * w + w = omega arith in
       ap (λ (l : List ℕ). bytesOf (w / 8) x ++ l) (r ∙ ap (λ (n : ℕ). drop n (bytesOf (w / 8) y ++ vectorBytes w v)) s)
       ∙ ap (λ (n : ℕ). take n (bytesOf (w / 8) y ++ vectorBytes w v) ++ (bytesOf (w / 8) x ++ drop (0 * w + w) (bytesOf (w / 8) y ++ vectorBytes w v))) (sym z)
   bytes-set (y ∷ v) h (suc d) x l =
       let p = bytesOf (w / 8) y in
       let q = vectorBytes w v in
-      let lp : length p ≡ w = vector-length y (h 0 (zero-lt-suc (length v)) .size) in
+      let lp : length p ≡ w = vector-length w hw y (h 0 (zero-lt-suc (length v)) .size) in
       let a : length p + d * w ≡ suc d * w = omega (arith, suc-mul d w) in
       let b : length p + (d * w + w) ≡ suc d * w + w = omega (arith, suc-mul d w) in
       let f : take (suc d * w) (p ++ q) ≡ p ++ take (d * w) q = ap (λ (n : ℕ). take n (p ++ q)) (sym a) ∙ take-append-add p q (d * w) in

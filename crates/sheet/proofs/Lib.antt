@@ -1,10 +1,12 @@
 pub mod Sound
-pub mod Cases
-pub mod Scanning
+pub mod Scan
 pub mod Rest
+pub mod SheetAnswer
+pub mod Checked
 pub mod Enough
 pub mod Lent
 pub mod Undoing
-pub mod Home
+pub mod RoundTrip
 pub mod Fitting
 pub mod Ran
+pub mod Parts

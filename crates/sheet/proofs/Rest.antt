@@ -1,4 +1,4 @@
--- A scan from any offset: how many commands may come is no matter once they are enough. Assumes nothing.
+-- A scan from any offset: how many commands may come is no matter once they are enough.
 use mathlib.Core.Path.{_≡_, refl, ap, sym, _∙_}
 use mathlib.Core.List.{List, []}
 use Prim.Native.Nat.{ℕ, zero, suc, _+_, _-_, _*_, _≤_}
@@ -6,31 +6,32 @@ use native.Mathlib.Omega.{arith}
 use lib.Dec.{ltb}
 use lib.ListN.{length}
 use Rattle.answer.specs.declared.Refusal.{Refusal}
-use Rattle.sheet.specs.declared.Command.{Command}
+use Rattle.sheet.specs.declared.Decoded.{Decoded}
 use Rattle.sheet.specs.declared.Read.{Read}
 use Rattle.sheet.specs.declared.Read.the-variants.{Got, Fault, End}
 use Rattle.sheet.specs.Read.{readAt}
 use Rattle.sheet.specs.Sheet.{Plan, refused, behind, continue, scanFrom, planOf}
 use Rattle.sheet.specs.Work.{totalWork}
 use Rattle.sheet.specs.Sound.{SoundRead}
-use Rattle.sheet.proofs.Sound.{split, read-sound}
-use Rattle.sheet.proofs.Cases.{ended}
-use Rattle.sheet.proofs.Scanning.{scan-got, scan-fault, scan-end}
+use Rattle.answer.proofs.Tests.{split}
+use Rattle.sheet.proofs.Sound.{read-sound}
+use Rattle.sheet.proofs.Scan.{read-end, scan-got, scan-fault, scan-end}
 
 module _ (w : ℕ) (s : List ℕ) where
   continued : (r : Read) (i : ℕ) (F G : ℕ → Plan) → SoundRead w (length s) i r → ((n : ℕ) → i + 2 ≤ n → F n ≡ G n) → continue r i F ≡ continue r i G
-  continued (Got c n) i F G h k = ap (behind i) (k n (h .on))
+  continued (Got d) i F G h k = ap (behind i) (k (d .next) (h .on))
   continued (Fault r) i F G h k = refl
   continued End i F G h k = refl
 
   pub enough : (f g i : ℕ) → length s - i ≤ f → length s - i ≤ g → scanFrom f w s i ≡ scanFrom g w s i
-  enough zero g i h k = sym (scan-end w s g i (sym (ended w s i (omega arith))))
-  enough (suc f) zero i h k = scan-end w s (suc f) i (sym (ended w s i (omega arith)))
-  enough (suc f) (suc g) i h k = continued (readAt w s i) i (scanFrom f w s) (scanFrom g w s) (read-sound w s i) (λ n on. enough f g n (omega arith) (omega arith))
+  enough zero g i h k = sym (scan-end w s g i (read-end w s i (omega arith)))
+  enough (suc f) zero i h k = scan-end w s (suc f) i (read-end w s i (omega arith))
+  enough (suc f) (suc g) i h k =
+      continued (readAt w s i) i (scanFrom f w s) (scanFrom g w s) (read-sound w s i) (λ n on. enough f g n (omega arith) (omega arith))
 
   -- the rest of a sheet from offset i on
-  pub rest-got : (i : ℕ) (c : Command) (n : ℕ) → readAt w s i ≡ Got c n → scanFrom (length s) w s i ≡ behind i (scanFrom (length s) w s n)
-  rest-got i c n e = enough (length s) (suc (length s)) i (omega arith) (omega arith) ∙ scan-got w s (suc (length s)) (length s) i c n refl e
+  pub rest-got : (i : ℕ) (d : Decoded) → readAt w s i ≡ Got d → scanFrom (length s) w s i ≡ behind i (scanFrom (length s) w s (d .next))
+  rest-got i d e = enough (length s) (suc (length s)) i (omega arith) (omega arith) ∙ scan-got w s (suc (length s)) (length s) i d refl e
 
   pub rest-fault : (i : ℕ) (r : Refusal) → readAt w s i ≡ Fault r → scanFrom (length s) w s i ≡ refused r i
   rest-fault i r e = enough (length s) (suc (length s)) i (omega arith) (omega arith) ∙ scan-fault w s (suc (length s)) i r (omega arith) e
@@ -41,7 +42,7 @@ module _ (w : ℕ) (s : List ℕ) where
   -- a command takes two bytes at least
   few-with : (r : Read) (i : ℕ) (F : ℕ → Plan) → SoundRead w (length s) i r → ((n : ℕ) → 2 * length (F n .offsets) ≤ length s - n)
       → 2 * length (continue r i F .offsets) ≤ length s - i
-  few-with (Got c n) i F h k = omega (arith, k n, h .on, h .within)
+  few-with (Got d) i F h k = omega (arith, k (d .next), h .on, h .within)
   few-with (Fault r) i F h k = omega arith
   few-with End i F h k = omega arith
 
@@ -55,7 +56,7 @@ module _ (w : ℕ) (s : List ℕ) where
   -- the work of a sheet is the number of its commands
   counted-with : (r : Read) (i : ℕ) (F : ℕ → Plan) → readAt w s i ≡ r → ((n : ℕ) → totalWork w s (F n .offsets) ≡ length (F n .offsets))
       → totalWork w s (continue r i F .offsets) ≡ length (continue r i F .offsets)
-  counted-with (Got c n) i F e k = rw e (omega (arith, k n))
+  counted-with (Got d) i F e k = rw e (omega (arith, k (d .next)))
   counted-with (Fault r) i F e k = refl
   counted-with End i F e k = refl
 

@@ -1,11 +1,12 @@
--- Document 01, "The load sheet": what each command does to the vectors. Assumes nothing.
-use mathlib.Core.List.{List, [], _∷_}
+-- Document 01, "The load sheet": what each command does to the vectors.
+use mathlib.Core.List.{List, []}
 use Prim.Native.Nat.{ℕ, _/_}
 use lib.ListN.{getD, set}
 use Rattle.memory.specs.Bytes.{wordsAt}
 use Rattle.quasigroup.specs.Tables.{widthOf}
 use Rattle.quasigroup.specs.Product.{product}
 use Rattle.quasigroup.specs.Division.{leftDivision, rightDivision}
+use Rattle.quasigroup.specs.Vector.{reversed}
 use Rattle.sheet.specs.declared.Command.{Command}
 use Rattle.sheet.specs.declared.Command.the-variants.{Lmul, Rmul, Ldiv, Rdiv, Swap, Flip, Kmul, Kdiv}
 
@@ -17,11 +18,6 @@ at v i = getD v i []
 abbrev pub vectorAt : ℕ → List ℕ → ℕ → List ℕ
 vectorAt w s i = wordsAt (w / 8) 8 s i
 
--- the words of a vector in reverse order
-abbrev pub flipped : List ℕ → List ℕ
-flipped x =
-    getD x 7 0 ∷ getD x 6 0 ∷ getD x 5 0 ∷ getD x 4 0 ∷ getD x 3 0 ∷ getD x 2 0 ∷ getD x 1 0 ∷ getD x 0 0 ∷ []
-
 -- the vectors v after a command of the sheet s, at width w
 abbrev pub effect : ℕ → List ℕ → Command → List (List ℕ) → List (List ℕ)
 effect w s (Lmul p) v = set v (p .d) (product (widthOf w) (at v (p .s)) (at v (p .d)))
@@ -29,7 +25,7 @@ effect w s (Rmul p) v = set v (p .d) (product (widthOf w) (at v (p .d)) (at v (p
 effect w s (Ldiv p) v = set v (p .d) (leftDivision (widthOf w) (at v (p .s)) (at v (p .d)))
 effect w s (Rdiv p) v = set v (p .d) (rightDivision (widthOf w) (at v (p .d)) (at v (p .s)))
 effect w s (Swap p) v = set (set v (p .d) (at v (p .s))) (p .s) (at v (p .d))
-effect w s (Flip d) v = set v d (flipped (at v d))
+effect w s (Flip d) v = set v d (reversed (at v d))
 effect w s (Kmul d k) v = set v d (product (widthOf w) (vectorAt w s k) (at v d))
 effect w s (Kdiv d k) v = set v d (leftDivision (widthOf w) (vectorAt w s k) (at v d))
 

@@ -1,18 +1,18 @@
 -- A scan counts its steps, so that it is a definition that ends. `length s` steps are enough: the scan ends where the sheet does or at a fault,
--- and never for lack of steps. The statement; proofs/Enough.antt shows it. Assumes nothing.
+-- and never for lack of steps. The statement; proofs/Enough.antt shows it.
 use mathlib.Core.Path.{_≡_}
 use mathlib.Core.List.{List, []}
 use Prim.Native.Nat.{ℕ, _≤_}
 use lib.ListN.{length}
 use Rattle.answer.specs.declared.Refusal.{Refusal}
-use Rattle.sheet.specs.declared.Command.{Command}
+use Rattle.sheet.specs.declared.Decoded.{Decoded}
 use Rattle.sheet.specs.declared.Read.the-variants.{Got, Fault, End}
 use Rattle.sheet.specs.Read.{readAt}
 use Rattle.sheet.specs.Sheet.{Sound, Plan, refused, behind, scanFrom}
 
 -- the plan of a sheet from offset i on, with no count of steps: a command and the plan from the offset behind it, a fault, or the sheet's end
 pub data PlanFrom (w : ℕ) (s : List ℕ) : ℕ → Plan → Type 0 where
-  at-command : {i n : ℕ} {c : Command} {p : Plan} → readAt w s i ≡ Got c n → PlanFrom w s n p → PlanFrom w s i (behind i p)
+  at-command : {i : ℕ} {d : Decoded} {p : Plan} → readAt w s i ≡ Got d → PlanFrom w s (d .next) p → PlanFrom w s i (behind i p)
   at-fault : {i : ℕ} {r : Refusal} → readAt w s i ≡ Fault r → PlanFrom w s i (refused r i)
   at-end : {i : ℕ} → readAt w s i ≡ End → PlanFrom w s i (record { offsets = []; outcome = Sound })
 

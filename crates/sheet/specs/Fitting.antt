@@ -1,8 +1,8 @@
--- What a run answers fits the number that C receives, which therefore tells the answer (`NumbersTell`, crate answer). The statement;
--- proofs/Fitting.antt shows it. Assumes nothing.
+-- What a run answers fits the number that C receives, which therefore tells the answer (`NumbersInjective`, crate answer). The statement;
+-- proofs/Fitting.antt shows it.
 use mathlib.Core.List.{List}
 use Prim.Native.Nat.{ℕ, _^_}
-use Rattle.answer.specs.Told.{Fits}
+use Rattle.answer.specs.Injective.{Fits}
 use Rattle.sheet.specs.Run.{runAnswer}
 
 abbrev pub RunFits : Type 0

@@ -3,7 +3,8 @@ pub mod Sheet
 pub mod Enough
 pub mod Effect
 pub mod Work
+pub mod SheetAnswer
 pub mod Run
-pub mod Home
+pub mod RoundTrip
 pub mod Fitting
 pub mod Sound

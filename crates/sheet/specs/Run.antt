@@ -1,21 +1,21 @@
--- Document 01, "The load sheet" and "What each operation refuses": a run of a sheet, forward or backward, over lent bytes. Assumes nothing.
-use mathlib.Core.Bool.{cond, not}
+-- Document 01, "The load sheet" and "What each operation refuses": a run of a sheet, forward or backward, over lent bytes.
 use mathlib.Core.List.{List, [], _∷_, _++_, reverse}
 use Prim.Native.Nat.{ℕ, zero, suc, _+_, _*_, _/_}
 use lib.Dec.{eqb}
 use lib.ListN.{length}
 use Rattle.answer.specs.declared.Answer.{Answer}
-use Rattle.answer.specs.declared.Answer.the-variants.{Done, Refused}
-use Rattle.answer.specs.declared.Refusal.the-variants.{Width, Operand}
+use Rattle.answer.specs.declared.Answer.the-variants.{Done}
+use Rattle.answer.specs.Refuse.{outcome}
+use Rattle.invertible.specs.Invertible.{stepped}
 use Rattle.memory.specs.Bytes.{bytesOf}
-use Rattle.quasigroup.specs.Tables.{known}
 use Rattle.sheet.specs.declared.Command.{Command}
 use Rattle.sheet.specs.declared.Read.{Read}
 use Rattle.sheet.specs.declared.Read.the-variants.{Got, Fault, End}
 use Rattle.sheet.specs.Read.{placeCount, readAt}
-use Rattle.sheet.specs.Sheet.{Outcome, Sound, Faulty, Plan, refused, planOf}
+use Rattle.sheet.specs.Sheet.{planOf}
 use Rattle.sheet.specs.Effect.{vectorAt, effect, undone}
 use Rattle.sheet.specs.Work.{totalWork}
+use Rattle.sheet.specs.SheetAnswer.{sheetAnswer}
 
 pub data Direction : Type 0 where
   Forward : Direction
@@ -37,7 +37,7 @@ order Backward l = reverse l
 
 -- the vectors v after what stands at an offset
 abbrev pub stepWith : Direction → ℕ → List ℕ → Read → List (List ℕ) → List (List ℕ)
-stepWith g w s (Got c n) v = effect w s (turned g c) v
+stepWith g w s (Got d) v = effect w s (turned g (d .command)) v
 stepWith g w s (Fault r) v = v
 stepWith g w s End v = v
 
@@ -46,8 +46,7 @@ step g w s i v = stepWith g w s (readAt w s i) v
 
 -- the vectors v after the commands at the offsets, one after the other
 abbrev pub steps : Direction → ℕ → List ℕ → List ℕ → List (List ℕ) → List (List ℕ)
-steps g w s [] v = v
-steps g w s (i ∷ l) v = steps g w s l (step g w s i v)
+steps g w s l v = stepped (step g w s) l v
 
 -- the n vectors of w bytes each that stand from offset i of b on, and back to bytes
 abbrev pub vectorsFrom : ℕ → ℕ → List ℕ → ℕ → List (List ℕ)
@@ -62,26 +61,14 @@ vectorBytes w (x ∷ v) = bytesOf (w / 8) x ++ vectorBytes w v
 abbrev pub vectorsIn : ℕ → List ℕ → List (List ℕ)
 vectorsIn w b = vectorsFrom w placeCount b 0
 
--- a run at width w over n lent bytes: 5, width not 32 or 64; 6, vectors not placeCount * w bytes; then 7 to 11
-unfoldable pub runPlan : ℕ → ℕ → List ℕ → Plan
-runPlan w n s =
-    cond (not (known w)) (refused Width 0)
-    (cond (not (eqb n (placeCount * w))) (refused Operand 0)
-    (planOf w s))
+-- the vectors v after a sheet's commands in the direction
+abbrev pub runVectors : Direction → ℕ → List ℕ → List (List ℕ) → List (List ℕ)
+runVectors g w s v = steps g w s (order g (planOf w s .offsets)) v
 
--- the answer: the work done, or the refusal and its offset
-abbrev pub answered : ℕ → List ℕ → List ℕ → Outcome → Answer
-answered w s l Sound = Done (totalWork w s l)
-answered w s l (Faulty r i) = Refused r i
-
--- the lent bytes b afterwards: a refused run moves nothing
-abbrev pub moved : Direction → ℕ → List ℕ → List ℕ → Outcome → List ℕ → List ℕ
-moved g w s l Sound b = vectorBytes w (steps g w s (order g l) (vectorsIn w b))
-moved g w s l (Faulty r i) b = b
-
--- A run at width w of the sheet s over the lent bytes b: its answer, and the bytes afterwards
+-- A run at width w of the sheet s over the lent bytes b. Its answer: 5; 6, the vectors are not placeCount * w bytes; 7 to 11; or the work done
 abbrev pub runAnswer : ℕ → List ℕ → List ℕ → Answer
-runAnswer w s b = let p = runPlan w (length b) s in answered w s (p .offsets) (p .outcome)
+runAnswer w s b = sheetAnswer w (eqb (length b) (placeCount * w)) s (Done (totalWork w s (planOf w s .offsets)))
 
+-- .. and the bytes afterwards: a refused run moves nothing
 abbrev pub runBytes : Direction → ℕ → List ℕ → List ℕ → List ℕ
-runBytes g w s b = let p = runPlan w (length b) s in moved g w s (p .offsets) (p .outcome) b
+runBytes g w s b = outcome (runAnswer w s b) (vectorBytes w (runVectors g w s (vectorsIn w b))) b

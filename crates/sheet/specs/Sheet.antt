@@ -1,4 +1,4 @@
--- Document 01, "The load sheet": a whole sheet, command by command. Assumes nothing.
+-- Document 01, "The load sheet": a whole sheet, command by command.
 use mathlib.Core.Bool.{cond}
 use mathlib.Core.List.{List, [], _∷_}
 use Prim.Native.Nat.{ℕ, zero, suc}
@@ -28,7 +28,7 @@ behind i p = record { offsets = i ∷ p .offsets; outcome = p .outcome }
 
 -- with what stands at offset i, and the rest of the plan from the offset behind it
 abbrev pub continue : Read → ℕ → (ℕ → Plan) → Plan
-continue (Got c n) i rest = behind i (rest n)
+continue (Got d) i rest = behind i (rest (d .next))
 continue (Fault r) i rest = refused r i
 continue End i rest = record { offsets = []; outcome = Sound }
 

@@ -1,10 +1,12 @@
--- What holds of a command that was read: its places are places, and its K lies in the sheet. Assumes nothing.
+-- What holds of a command that was read: its places are places, and its K lies in the sheet. Of contracts, only those of functions inside the kit
+-- cite this.
 use mathlib.Core.Path.{_≡_}
 use Prim.Native.Nat.{ℕ, _+_, _≤_, _<_}
 use Rattle.sheet.specs.Read.{placeCount}
 use Rattle.sheet.specs.declared.Places.{Places}
 use Rattle.sheet.specs.declared.Command.{Command}
 use Rattle.sheet.specs.declared.Command.the-variants.{Lmul, Rmul, Ldiv, Rdiv, Swap, Flip, Kmul, Kdiv}
+use Rattle.sheet.specs.declared.Decoded.{Decoded}
 use Rattle.sheet.specs.declared.Read.{Read}
 use Rattle.sheet.specs.declared.Read.the-variants.{Got, Fault, End}
 
@@ -28,13 +30,14 @@ SoundCommand w n (Flip d) = d < placeCount
 SoundCommand w n (Kmul d k) = SoundVector w n d k
 SoundCommand w n (Kdiv d k) = SoundVector w n d k
 
-pub record Whole (w n i : ℕ) (c : Command) (next : ℕ) : Type 0 where
-  pub sound : SoundCommand w n c
-  pub on : i + 2 ≤ next
-  pub within : next ≤ n
+-- .. read at offset i: the offset behind it is further on, and in the sheet
+pub record SoundDecoded (w n i : ℕ) (d : Decoded) : Type 0 where
+  pub sound : SoundCommand w n (d .command)
+  pub on : i + 2 ≤ d .next
+  pub within : d .next ≤ n
 
 -- of what was read at offset i
 abbrev pub SoundRead : ℕ → ℕ → ℕ → Read → Type 0
-SoundRead w n i (Got c next) = Whole w n i c next
+SoundRead w n i (Got d) = SoundDecoded w n i d
 SoundRead w n i (Fault r) = i < n
 SoundRead w n i End = n ≤ i

@@ -1,4 +1,4 @@
--- Document 01, "The load sheet": the work of a sheet, which is the number of its commands. Assumes nothing.
+-- Document 01, "The load sheet": the work of a sheet, which is the number of its commands.
 use mathlib.Core.List.{List, [], _∷_}
 use Prim.Native.Nat.{ℕ, _+_}
 use lib.ListN.{length}
@@ -17,7 +17,7 @@ work c = 1
 
 -- what stands at an offset counts
 abbrev pub workIn : Read → ℕ
-workIn (Got c n) = work c
+workIn (Got d) = work (d .command)
 workIn (Fault r) = 0
 workIn End = 0
 

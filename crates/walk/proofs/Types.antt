@@ -1,5 +1,5 @@
 -- The types of a function over a lent struct, as the walks of this crate read them. It says nothing of any crate above.
---     Result       the answer: its row, its one MIR type, its way into a struct's field and what is proved of it.        enum, number     an enum of plain data, and a u64
+-- Result the answer: its row, its one MIR type, its way into a struct's field and what is proved of it. enum, number an enum of plain data, and a u64
 --     Types        a struct S of plain data, an answer, and the struct of an answer and an S, in this order, that a function by value returns
 --     S, R, P, F   the rows of these and, for P, the declared type of the pair
 --     state-val, answer-val, answer-is, state-is       the machine values of a state and of an answer, and what whoever holds the pair knows of its fields
@@ -81,7 +81,8 @@ pub record Types : Type 2 where
   pub Pair : Type 0
   pub answer : Pair → A .row .Denot
   pub state : Pair → S .D
-  pub one : (x y : Pair) → _≡_ {A = Denots (at-type (A .inner) (A .mir) ∷ SD.field S .row ∷ [])} (A .into (answer x), (S .to (state x), tt)) (A .into (answer y), (S .to (state y), tt)) → x ≡ y
+  pub one : (x y : Pair) → _≡_ {A = Denots (at-type (A .inner) (A .mir) ∷ SD.field S .row ∷ [])} (A .into (answer x), (S .to (state x), tt))
+      (A .into (answer y), (S .to (state y), tt)) → x ≡ y
 
 module _ (T : Types) where
   abbrev pub S : RattleType
@@ -94,7 +95,15 @@ module _ (T : Types) where
   answer-field = record { row = at-type (T .A .inner) (T .A .mir); Value = T .A .row .Denot; into = T .A .into; into-one = T .A .into-one }
 
   abbrev pub P : SD.Declared
-  P = record { name = T .name; args = []; parts = answer-field ∷ SD.field (T .S) ∷ []; D = T .Pair; to = λ x. (T .A .into (T .answer x), (T .S .to (T .state x), tt)); to-one = T .one }
+  P = record {
+    name = T .name;
+    args = [];
+    parts = answer-field
+        ∷ SD.field (T .S) ∷ [];
+    D = T .Pair;
+    to = λ x. (T .A .into (T .answer x), (T .S .to (T .state x), tt));
+    to-one = T .one;
+  }
 
   abbrev pub P-laws : LL.Laws P
   P-laws = (T .A .laws, (LL.field-laws (T .S) (T .S-laws) (T .S-low), tt))

@@ -1,9 +1,10 @@
--- The code's hash in progress as the definitions' one, and what its operations return.
+-- The code's hash in progress as the definitions' one, and what its operations return. C's contracts cite `hashOf`, `wideOf` and `fed`; `opened` only
+-- this crate's own.
 use mathlib.Core.List.{List}
 use Prim.Native.Nat.{ℕ}
 use Rattle.digest.specs.Kind.{wideKind}
 use Rattle.digest.specs.State.{Hash, openAnswer, openState, feedAnswer, feedState}
-use Rattle.block.specs.Pipes.{pipe64}
+use Rattle.block64.specs.Pipes.{pipe64}
 use Rattle.wide.specs.declared.Wide.{Wide}
 use Rattle.wide.specs.declared.Outcome.{Outcome}
 

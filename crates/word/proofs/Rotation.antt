@@ -1,7 +1,7 @@
 -- Rotation to the left within w bits.
 use mathlib.Core.Path.{_≡_, sym, ap, ap₂, _∙_, subst}
 use Prim.Native.Nat.{ℕ, suc, _+_, _-_, _*_, _/_, _%_, _^_, _≤_, _<_}
-use native.Mathlib.Nat.{mod-lt, add-sub-of-le, add-sub-cancel-left, add-comm, mul-comm, mul-add-mod-self-right, mod-eq-of-lt, mul-mod-left, sub-self, div-one, zero-add, pow-suc}
+use native.Mathlib.Nat.{mod-lt, add-sub-of-le, add-sub-cancel-left, add-comm, mul-comm, mul-add-mod-self-right, mod-eq-of-lt, pow-suc}
 use native.Mathlib.Numerals.{one-add}
 use native.Mathlib.Omega.{arith}
 use lib.Arith.{digits-lt}
@@ -49,11 +49,6 @@ rotl-lt w r x h = subst (λ n. x < 2 ^ n → rotl n r x < 2 ^ n) (add-sub-of-le 
 -- turned by r and then by w - r a word is as it was
 pub rotl-back : (w r x : ℕ) → r ≤ w → x < 2 ^ w → rotl w (w - r) (rotl w r x) ≡ x
 rotl-back w r x h = subst (λ n. x < 2 ^ n → rotl n (w - r) (rotl n r x) ≡ x) (add-sub-of-le h) (back r (w - r) x)
-
--- by the whole width: nothing moves
-pub rotl-whole : (w x : ℕ) → rotl w w x ≡ x
-unfolding rotl
-rotl-whole w x = ap₂ _+_ (mul-mod-left x (2 ^ w)) (ap (λ n. x / 2 ^ n) (sub-self w) ∙ div-one x) ∙ zero-add x
 
 -- to the right, as code has it
 right-is : (k r x : ℕ) → x < 2 ^ (suc k + r) → bitOr ((x * 2 % 2 ^ (suc k + r)) * 2 ^ k % 2 ^ (suc k + r)) (x / 2 ^ r) ≡ rotl (suc k + r) (suc k) x

@@ -2,8 +2,8 @@ use mathlib.Core.Path.{sym, _∙_}
 use native.Mathlib.Omega.{arith}
 use borrow.Author.Needs.{needs}
 use denote.Ref.{now}
-use Rattle.sheet.proofs.Ran.{short}
-use Rattle.listing.proofs.Texts.{then, finished}
+use Rattle.sheet.proofs.Checked.{short}
+use Rattle.text.proofs.Pushed.{then, finished}
 use Rattle.listing.proofs.Lines.{listed-whole, listed-faulty}
 use Rattle.listing.proofs.list.Statement.{statement}
 use Rattle.listing.proofs.list.Tie as tie

@@ -1,6 +1,6 @@
 use native.Mathlib.Omega.{arith}
 use borrow.Author.Needs.{needs}
-use Rattle.listing.proofs.Texts.{then}
+use Rattle.text.proofs.Pushed.{then}
 use Rattle.listing.proofs.push_end.Statement.{statement}
 use Rattle.listing.proofs.push_end.Tie as tie
 

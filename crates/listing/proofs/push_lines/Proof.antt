@@ -24,29 +24,32 @@ loop-holds c = (c .before .before .pre, omega arith, omega arith, refl, refl, om
 read-command-requires : tie.Need-read-command-requires Inv-loop μ-loop
 read-command-requires c κs = search needs
 
-enum-known-c : tie.Need-enum-known-c Inv-loop μ-loop
-enum-known-c c = search needs
+enum-known-d : tie.Need-enum-known-d Inv-loop μ-loop
+enum-known-d c = search needs
 
 push-line-requires : tie.Need-push-line-requires Inv-loop μ-loop
 push-line-requires c κs = search needs
 
 loop-less : tie.Need-loop-less Inv-loop μ-loop
 loop-less c =
-    let g = c .before .before .before .before .before in
+    let t = c .before .before in
+    let g = t .before .before .before in
     let p = g .before .before .before in
     let a = p .before .before .before .args in
-    let h = got-sound (a .width) (now (a .sheet)) (p .loop .at) (sym (g .before .before .read-command .ensures) ∙ g .c .given .1) in
+    let h = got-sound (a .width) (now (a .sheet)) (p .loop .at) (sym (g .before .before .read-command .ensures) ∙ g .d .given .1) in
     omega (arith, h .on, h .within)
 
 loop-again : tie.Need-loop-again Inv-loop μ-loop
 loop-again c =
-    let g = c .before .before .before .before .before in
+    let t = c .before .before in
+    let g = t .before .before .before in
     let p = g .before .before .before in
     let a = p .before .before .before .args in
-    let e = sym (g .before .before .read-command .ensures) ∙ g .c .given .1 in
+    let e = sym (g .before .before .read-command .ensures) ∙ g .d .given .1 in
     let h = got-sound (a .width) (now (a .sheet)) (p .loop .at) e in
-    let q = c .before .before .push-line .ensures in
-    let m = lines-more (a .width) (now (a .sheet)) (now (a .out)) (p .loop .out) (p .loop .next) (p .loop .at) (p .loop .inv .4) (p .loop .inv .5) (g .c .given .0 .0) (g .c .given .0 .1 .0) e (q .0) in
+    let q = t .push-line .ensures in
+    let m = lines-more (a .width) (now (a .sheet)) (now (a .out)) (p .loop .out) (p .loop .next) (p .loop .at) (p .loop .inv .4) (p .loop .inv .5)
+    (g .d .given .0 .0) e (q .0) in
     (p .loop .inv .0, h .within, omega (arith, h .on, q .1), search needs, m .0, m .1)
 
 enum-told : tie.Need-enum-told Inv-loop μ-loop
@@ -81,5 +84,5 @@ pub push-lines-spec : {M : Type 1} → statement M
 push-lines-spec =
     tie.close
     (tie.spec
-    Inv-loop μ-loop loop-holds read-command-requires enum-known-c push-line-requires loop-less loop-again enum-told
+    Inv-loop μ-loop loop-holds read-command-requires enum-known-d push-line-requires loop-less loop-again enum-told
     same-length returns enum-told-2 same-length-2 returns-2)

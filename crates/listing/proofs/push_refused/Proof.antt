@@ -2,9 +2,9 @@ use mathlib.Core.Path.{subst}
 use Prim.Native.Nat.{ℕ}
 use native.Mathlib.Omega.{arith}
 use borrow.Author.Needs.{needs}
-use Rattle.listing.specs.Listing.{spaced}
-use Rattle.listing.specs.Pushed.{Pushed}
-use Rattle.listing.proofs.Texts.{then}
+use Rattle.text.specs.Decimal.{spaced}
+use Rattle.text.specs.Pushed.{Pushed}
+use Rattle.text.proofs.Pushed.{then}
 use Rattle.listing.proofs.push_refused.Statement.{statement}
 use Rattle.listing.proofs.push_refused.Tie as tie
 
@@ -12,11 +12,12 @@ returns : tie.Need-returns
 returns c =
     let d = c .before .before in
     let y = d .before .before .before .before in
-    let x = y .before .before .before .before .before in
-    let t = x .before .before .before .before .before in
-    let number = subst (λ (n : ℕ). Pushed (t .push-text .last .0) (t .push-text .result) (spaced n) (x .push-spaced .last .0) (x .push-spaced .result)) (x .before .refusal-number .ensures .0) (x .push-spaced .ensures .0) in
-    let offset = subst (λ (n : ℕ). Pushed (x .push-spaced .last .0) (x .push-spaced .result) (spaced n) (y .push-spaced2 .last .0) (y .push-spaced2 .result)) (y .before .wide32 .ensures) (y .push-spaced2 .ensures .0) in (
-      then (t .push-text .ensures) (then number (then offset (d .push .ensures))),
+    let x = y .before .before .before .before in
+    let n = x .before in
+    let t = n .before .before .before .before in
+    let pushed : ℕ → Type 0 = λ k. Pushed (t .push-text .last .0) (t .push-text .result) (spaced k) (x .push-spaced .last .0) (x .push-spaced .result) in
+    let number = subst pushed (n .refusal-number .ensures .0) (x .push-spaced .ensures .0) in (
+      then (t .push-text .ensures) (then number (then (y .push-spaced2 .ensures .0) (d .push .ensures))),
       omega (arith, t .push-text .ensures .behind, x .push-spaced .ensures .1, y .push-spaced2 .ensures .1, d .push .ensures .behind),
     )
 
@@ -25,4 +26,4 @@ push-refused-spec =
     tie.close
     (tie.spec
     (λ c. search needs) (λ c κs. search needs) (λ c κs. search needs) (λ c κs. search needs) (λ c κs. search needs)
-    (λ c κs. search needs) (λ c κs. search needs) (λ c. search needs) returns)
+    (λ c κs. search needs) (λ c. search needs) returns)

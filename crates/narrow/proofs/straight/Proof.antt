@@ -5,14 +5,15 @@ use borrow.Author.Needs.{needs}
 use denote.Ref.{now}
 use lib.ListN.{length}
 use Rattle.digest.specs.Blocks.{filled}
-use Rattle.digest.proofs.Buffer.{to-end}
+use Rattle.memory.proofs.Lists.{to-end}
 use Rattle.narrow.proofs.straight.Statement.{statement}
 use Rattle.narrow.proofs.straight.Tie as tie
 
 returns : tie.Need-returns
 returns c =
-    let s = now (c .before .before .before .before .before .args .s) in
-    (c .before .before .before .steps32 .ensures, c .hold .ensures ∙ ap (filled 64) (append-nil _ ∙ to-end s _ (div-mul-le-self (length s) 64)))
+    let q = c .before .before .before in
+    let s = now (q .before .before .args .s) in
+    (q .steps .ensures, c .hold .ensures ∙ ap (filled 64) (append-nil _ ∙ to-end s _ (div-mul-le-self (length s) 64)))
 
 pub straight-spec : {M : Type 1} → statement M
 straight-spec =

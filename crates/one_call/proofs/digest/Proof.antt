@@ -8,15 +8,15 @@ use Rattle.one_call.proofs.digest.Tie as tie
 
 returns : tie.Need-returns
 returns c =
-    let a = c .before .before .before .before .before .before .before .before .args in
-    by-kind (a .size) (now (a .message)) (now (a .out)) true
-    (sym (c .before .before .before .before .before .is-size .ensures) ∙ c .before .before .before .before .if1 .taken) (c .before .before .digest .ensures)
+    let t = c .before .before .before .before in
+    let a = t .before .before .before .before .args in
+    by-kind (a .size) (now (a .message)) (now (a .out)) true (sym (t .before .is-size .ensures) ∙ t .if1 .taken) (c .before .before .digest .ensures)
 
 returns-2 : tie.Need-returns-2
 returns-2 c =
-    let a = c .before .before .before .before .before .before .before .before .args in
-    by-kind (a .size) (now (a .message)) (now (a .out)) false
-    (sym (c .before .before .before .before .before .is-size .ensures) ∙ c .before .before .before .before .if1 .left) (c .before .before .digest2 .ensures)
+    let t = c .before .before .before .before in
+    let a = t .before .before .before .before .args in
+    by-kind (a .size) (now (a .message)) (now (a .out)) false (sym (t .before .is-size .ensures) ∙ t .if1 .left) (c .before .before .digest2 .ensures)
 
 pub digest-spec : {M : Type 1} → statement M
 digest-spec =

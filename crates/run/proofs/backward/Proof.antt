@@ -1,21 +1,21 @@
-use mathlib.Core.Path.{_≡_, refl, ap, _∙_}
+use mathlib.Core.Path.{_≡_, refl}
 use mathlib.Core.Bool.{true}
 use mathlib.Core.List.{reverse}
-use Prim.Native.Nat.{ℕ, suc, _+_, _-_, _*_, _≤_}
+use Prim.Native.Nat.{suc, _+_, _-_, _*_, _≤_}
 use native.Mathlib.Omega.{arith}
 use borrow.Author.Needs.{needs}
 use denote.Ref.{now}
 use lib.ListN.{length, take}
-use Rattle.quasigroup.specs.Tables.{known}
+use Rattle.quasigroup.specs.Tables.{knownWidth}
 use Rattle.sheet.specs.Read.{placeCount}
-use Rattle.sheet.specs.Run.{Backward, step, steps, vectorsIn}
+use Rattle.sheet.specs.Run.{Backward, steps, vectorsIn}
 use Rattle.run.proofs.Loops.{backward-more}
 use Rattle.run.proofs.backward.Statement.{statement}
 use Rattle.run.proofs.backward.Tie as tie
 
 abbrev Inv-loop : tie.InvT-loop
 Inv-loop width sheet offsets n vectors₀ done₀ vectors done =
-    (known width ≡ true) × (length vectors ≡ placeCount * width) × (length vectors ≡ length vectors₀) × (done ≤ n) × (n ≤ length offsets)
+    (knownWidth width ≡ true) × (length vectors ≡ placeCount * width) × (length vectors ≡ length vectors₀) × (done ≤ n) × (n ≤ length offsets)
     × (steps Backward width sheet (reverse (take (n - done) offsets)) (vectorsIn width vectors)
     ≡ steps Backward width sheet (reverse (take n offsets)) (vectorsIn width vectors₀))
 
@@ -35,14 +35,14 @@ sub-last c = search needs
 sub-last-2 : tie.Need-sub-last-2 Inv-loop μ-loop
 sub-last-2 c = search needs
 
-mul-wide16 : tie.Need-mul-wide16 Inv-loop μ-loop
-mul-wide16 c = search needs
+mul-from-u16 : tie.Need-mul-from-u16 Inv-loop μ-loop
+mul-from-u16 c = search needs
 
-shared-slice-read-wide16 : tie.Need-shared-slice-read-wide16 Inv-loop μ-loop
-shared-slice-read-wide16 c = search needs
+shared-slice-read-from-u16 : tie.Need-shared-slice-read-from-u16 Inv-loop μ-loop
+shared-slice-read-from-u16 c = search needs
 
-wide16-requires : tie.Need-wide16-requires Inv-loop μ-loop
-wide16-requires c κs = search needs
+from-u16-requires : tie.Need-from-u16-requires Inv-loop μ-loop
+from-u16-requires c κs = search needs
 
 undo-requires : tie.Need-undo-requires Inv-loop μ-loop
 undo-requires c κs = search needs
@@ -55,8 +55,9 @@ loop-less c = search needs
 
 loop-again : tie.Need-loop-again Inv-loop μ-loop
 loop-again c =
-    let t = c .before .before .before .before .before .before in
-    let p = t .before in
+    let u = c .before .before in
+    let x = u .before .before in
+    let p = x .before .before .before in
     let a = p .before .before .before .before .args in
     let w = a .width in
     let s = now (a .sheet) in
@@ -72,8 +73,7 @@ loop-again c =
       omega arith,
       i .4,
       rw (← d)
-          (backward-more w s (a .n - p .loop .done) v l last b (omega arith) (i .5)
-          (c .before .before .undo .ensures ∙ ap (λ (j : ℕ). step Backward w s j v) (c .before .before .before .before .wide16 .ensures))),
+          (backward-more w s (a .n - p .loop .done) v l last b (omega arith) (i .5) (x .from-u16 .ensures) (u .undo .ensures)),
     )
 
 same-length : tie.Need-same-length Inv-loop μ-loop
@@ -90,5 +90,5 @@ pub backward-spec : {M : Type 1} → statement M
 backward-spec =
     tie.close
     (tie.spec
-    Inv-loop μ-loop loop-holds sub-last sub-last-2 mul-wide16 shared-slice-read-wide16 wide16-requires undo-requires add-done loop-less
+    Inv-loop μ-loop loop-holds sub-last sub-last-2 mul-from-u16 shared-slice-read-from-u16 from-u16-requires undo-requires add-done loop-less
     loop-again same-length returns)

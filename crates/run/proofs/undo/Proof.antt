@@ -1,48 +1,49 @@
-use mathlib.Core.Path.{ap, sym, subst, _∙_}
+use mathlib.Core.Path.{sym, subst, _∙_}
 use borrow.Author.Needs.{needs}
 use denote.Ref.{now}
 use lib.ListN.{length}
-use Rattle.sheet.specs.declared.Command.{Command}
-use Rattle.sheet.specs.declared.Read.{Read}
-use Rattle.sheet.specs.Effect.{effect}
-use Rattle.sheet.specs.Run.{Backward, stepWith, vectorsIn}
+use Rattle.sheet.specs.Run.{vectorsIn}
 use Rattle.sheet.specs.Sound.{SoundCommand}
 use Rattle.sheet.proofs.Sound.{got-sound}
 use Rattle.sheet.proofs.Undoing.{sound-undone}
+use Rattle.run.proofs.Loops.{undone-got, undone-fault, undone-end}
 use Rattle.run.proofs.undo.Statement.{statement}
 use Rattle.run.proofs.undo.Tie as tie
 
 apply-requires : tie.Need-apply-requires
 apply-requires c κs =
     let g = c .before .before .before in
-    let p = g .before .before .before .before .before in
+    let r = g .before .before in
+    let p = r .before .before .before in
     let a = p .args in
-    let h = got-sound (a .width) (now (a .sheet)) (a .at) (sym (g .before .before .read-command .ensures) ∙ g .c .given .1) in (
+    let n = length (now (a .sheet)) in
+    let h = got-sound (a .width) (now (a .sheet)) (a .at) (sym (r .read-command .ensures) ∙ g .d .given .1) in (
       p .pre .0,
       p .pre .1,
-      subst (SoundCommand (a .width) (length (now (a .sheet)))) (sym (c .before .opposite .ensures)) (sound-undone (a .width) (length (now (a .sheet))) (g .c .given .0 .0) (h .sound)),
+      subst (SoundCommand (a .width) n) (sym (c .before .opposite .ensures)) (sound-undone (a .width) n (g .d .given .0 .0 .command) (h .sound)),
     )
 
 returns : tie.Need-returns
 returns c =
     let r = c .before .before in
     let a = r .before .before .before .args in
-    ap (λ (q : Read). stepWith Backward (a .width) (now (a .sheet)) q (vectorsIn (a .width) (now (a .vectors)))) (sym (c .enum-told .given .1) ∙ r .read-command .ensures)
+    undone-fault (a .width) (now (a .sheet)) (a .at) (vectorsIn (a .width) (now (a .vectors)))
+    (c .enum-told .given .0 .0) (sym (r .read-command .ensures) ∙ c .enum-told .given .1)
 
 returns-2 : tie.Need-returns-2
 returns-2 c =
     let r = c .before .before in
     let a = r .before .before .before .args in
-    ap (λ (q : Read). stepWith Backward (a .width) (now (a .sheet)) q (vectorsIn (a .width) (now (a .vectors)))) (sym (c .enum-told2 .given .1) ∙ r .read-command .ensures)
+    undone-end (a .width) (now (a .sheet)) (a .at) (vectorsIn (a .width) (now (a .vectors))) (sym (r .read-command .ensures) ∙ c .enum-told2 .given .1)
 
 returns-3 : tie.Need-returns-3
 returns-3 c =
-    let g = c .before .before .before .before .before .before in
+    let t = c .before .before in
+    let g = t .before .before .before .before in
     let r = g .before .before in
     let a = r .before .before .before .args in
-    c .before .before .apply .ensures
-    ∙ ap (λ (k : Command). effect (a .width) (now (a .sheet)) k (vectorsIn (a .width) (now (a .vectors)))) (c .before .before .before .before .opposite .ensures)
-    ∙ ap (λ (q : Read). stepWith Backward (a .width) (now (a .sheet)) q (vectorsIn (a .width) (now (a .vectors)))) (sym (g .c .given .1) ∙ r .read-command .ensures)
+    undone-got (a .width) (now (a .sheet)) (a .at) (vectorsIn (a .width) (now (a .vectors)))
+    (g .d .given .0 .0) (sym (r .read-command .ensures) ∙ g .d .given .1) (t .before .before .opposite .ensures) (t .apply .ensures)
 
 pub undo-spec : {M : Type 1} → statement M
 undo-spec =

@@ -5,22 +5,23 @@ use denote.Ref.{now}
 use lib.Dec.{lit≤}
 use lib.ListN.{length-take}
 use lib.Seq.{length-take-le}
-use Rattle.quasigroup.specs.Tables.{wide}
+use Rattle.quasigroup.specs.Tables.{width64}
 use Rattle.digest.specs.Step.{step}
 use Rattle.digest.proofs.Absorb.{absorb-none, absorb-few, absorb-many}
-use Rattle.block.specs.Pipes.{pipe64}
+use Rattle.block64.specs.Pipes.{pipe64}
 use Rattle.wide.proofs.absorb.Statement.{statement}
 use Rattle.wide.proofs.absorb.Tie as tie
 
 returns : tie.Need-returns
 returns c =
     let a = c .before .before .before .before .args in
-    absorb-none 128 (lit≤ tt) (step wide) (pipe64 (a .p)) (now (a .a)) (now (a .s)) (c .before .if1 .taken) (c .straight .ensures)
+    absorb-none 128 (lit≤ tt) (step width64) (pipe64 (a .p)) (now (a .a)) (now (a .s)) (c .before .if1 .taken) (c .straight .ensures)
 
 returns-2 : tie.Need-returns-2
 returns-2 c =
-    let a = c .before .before .before .before .before .args in
-    let t = absorb-few 128 (lit≤ tt) (step wide) (pipe64 (a .p)) (now (a .a)) (now (a .s)) (omega arith) in
+    let l = c .before .before in
+    let a = l .before .before .before .args in
+    let t = absorb-few 128 (lit≤ tt) (step width64) (pipe64 (a .p)) (now (a .a)) (now (a .s)) (omega arith) in
     (t .0, c .hold .ensures ∙ t .1)
 
 slice-aggregate-hold : tie.Need-slice-aggregate-hold
@@ -31,9 +32,11 @@ hold-requires-2 c κs = simp length-take (omega arith)
 
 returns-3 : tie.Need-returns-3
 returns-3 c =
-    let a = c .before .before .before .before .before .before .before .before .before .before .args in
-    absorb-many 128 (lit≤ tt) (step wide) (pipe64 (a .p)) (now (a .a)) (now (a .s)) (search needs) (search needs)
-    (c .before .before .before .before .hold2 .ensures) (c .before .before .step64 .ensures) (c .straight2 .ensures)
+    let h = c .before .before .before .before in
+    let l = h .before .before in
+    let a = l .before .before .before .before .args in
+    absorb-many 128 (lit≤ tt) (step width64) (pipe64 (a .p)) (now (a .a)) (now (a .s)) (search needs) (search needs)
+    (h .hold2 .ensures) (c .before .before .step .ensures) (c .straight2 .ensures)
 
 pub absorb-spec : {M : Type 1} → statement M
 absorb-spec =

@@ -5,14 +5,15 @@ use borrow.Author.Needs.{needs}
 use denote.Ref.{now}
 use lib.ListN.{length}
 use Rattle.digest.specs.Blocks.{filled}
-use Rattle.digest.proofs.Buffer.{to-end}
+use Rattle.memory.proofs.Lists.{to-end}
 use Rattle.wide.proofs.straight.Statement.{statement}
 use Rattle.wide.proofs.straight.Tie as tie
 
 returns : tie.Need-returns
 returns c =
-    let s = now (c .before .before .before .before .before .args .s) in
-    (c .before .before .before .steps64 .ensures, c .hold .ensures ∙ ap (filled 128) (append-nil _ ∙ to-end s _ (div-mul-le-self (length s) 128)))
+    let q = c .before .before .before in
+    let s = now (q .before .before .args .s) in
+    (q .steps .ensures, c .hold .ensures ∙ ap (filled 128) (append-nil _ ∙ to-end s _ (div-mul-le-self (length s) 128)))
 
 pub straight-spec : {M : Type 1} → statement M
 straight-spec =

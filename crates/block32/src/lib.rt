@@ -1,0 +1,100 @@
+// The pipe of the narrow kind and one block's step, on words of 32 bits.
+ghost use mathlib.Core.Path.{_≡_};
+ghost use mathlib.Core.List.{_++_};
+ghost use Prim.Native.Nat.{_≤_};
+ghost use lib.ListN.{length, drop};
+ghost use Rattle.quasigroup.specs.Tables.{width32};
+ghost use Rattle.digest.specs.Blocks.{compressed, lastBytes};
+ghost use Rattle.digest.specs.Pipe.{written};
+ghost use Rattle.digest.specs.Step.{R, step};
+ghost use Rattle.digest.specs.Kind.{narrowKind};
+ghost use Rattle.block32.specs.Pipes.{pipe32};
+use product32::joined;
+use product32::left_half;
+use product32::reversed;
+use product32::right_half;
+
+// Words 0 to 7 and words 8 to 15.
+#[repr(C)]
+pub struct Pipe32 {
+    pub first: [u32; 8],
+    pub second: [u32; 8],
+}
+
+// The starting pipe of a size.
+pub fn start(size: u32) -> Pipe32
+    ensures { λ r. ⌜ pipe32 r ≡ narrowKind .start size ⌝ }
+{
+    if size == 224 {
+        let t = tables::START_224;
+        return Pipe32 {
+            first: t[0],
+            second: t[1],
+        };
+    }
+    let t = tables::START_256;
+    Pipe32 {
+        first: t[0],
+        second: t[1],
+    }
+}
+
+// The products of the definition by their halves: D4 and D5 share the left half of D3, and D6 and D7 the right half of D5.
+fn transform(c0: [u32; 8], c1: [u32; 8], x: [u32; 8], y: [u32; 8]) -> Pipe32
+    ensures { λ r. ⌜ pipe32 r ≡ R width32 c0 c1 x y ⌝ }
+{
+    let d1 = joined(left_half(reversed(y)), right_half(x));
+    let d2 = joined(left_half(d1), right_half(y));
+    let d3 = joined(left_half(c0), right_half(d1));
+    let left = left_half(d3);
+    let d4 = joined(left, right_half(d2));
+    let d5 = joined(left, right_half(c1));
+    let right = right_half(d5);
+    let d6 = joined(left_half(d4), right);
+    let d7 = joined(left_half(reversed(x)), right);
+    let d8 = joined(left_half(d7), right_half(d6));
+    Pipe32 {
+        first: d7,
+        second: d8,
+    }
+}
+
+// The pipe after the block `m`.
+pub fn step(p: Pipe32, m: &[u8]) -> Pipe32
+    requires { ⌜ length (now m) ≡ 64 ⌝ }
+    ensures { λ r. ⌜ pipe32 r ≡ step width32 (pipe32 p) (now (m .entry)) ⌝ }
+{
+    let x = memory32::load_vector(m);
+    let y = memory32::load_vector(&m[32..]);
+    let c0 = p.second;
+    let c1 = p.first;
+    transform(c0, c1, x, y)
+}
+
+// The pipe after all whole blocks of `s`, which are taken straight from it.
+pub fn steps(p: Pipe32, s: &[u8]) -> Pipe32
+    ensures { λ r. ⌜ pipe32 r ≡ compressed 64 (step width32) (pipe32 p) (now (s .entry)) ⌝ }
+{
+    let n = s.len() / 64;
+    let mut q = p;
+    let mut i = 0;
+    while i < n {
+        let at = i * 64;
+        let end = at + 64;
+        q = step(q, &s[at..end]);
+        i += 1;
+    }
+    q
+}
+
+// The last `n` bytes of a pipe written out, to the start of `out`; they all stand in its second vector.
+pub fn write(p: Pipe32, n: usize, out: &mut [u8])
+    requires { ⌜ (n ≤ 32) × (n ≤ length (now out)) ⌝ }
+    ensures { λ _. ⌜ now (out .exit) ≡ lastBytes n (written 4 (pipe32 p)) ++ drop n (now (out .entry)) ⌝ }
+{
+    let mut b = [0u8; 32];
+    let v: [u32; 8] = p.second;
+    memory32::store_vector(&mut b, v);
+    let from = 32 - n;
+    memory::copy_at(out, 0, &b[from..]);
+}

@@ -1,0 +1,29 @@
+-- The two halves, and both undone, from their steps, for every width.
+use mathlib.Core.Path.{_≡_, ap, _∙_}
+use mathlib.Core.List.{List}
+use Prim.Native.Nat.{ℕ}
+use Rattle.quasigroup.specs.Tables.{Width, leftSums, rightSums}
+use Rattle.quasigroup.specs.Product.{sums, rotations, combinations, leftHalf, rightHalf}
+use Rattle.quasigroup.specs.Division.{leftUnxors, rightUnxors, leftInverse, rightInverse, unrotatedSums, unsums, unleft, unright}
+
+module _ (s : Width) {x v t z : List ℕ} (same : v ≡ x) where
+  pub left-half : t ≡ rotations (s .bits) (s .leftAmounts) (sums (s .bits) (s .leftConstant) leftSums v) → z ≡ combinations leftSums t → z ≡ leftHalf s x
+  unfolding leftHalf
+  left-half e f =
+      f ∙ ap (combinations leftSums) (e ∙ ap (λ (u : List ℕ). rotations (s .bits) (s .leftAmounts) (sums (s .bits) (s .leftConstant) leftSums u)) same)
+
+  pub right-half : t ≡ rotations (s .bits) (s .rightAmounts) (sums (s .bits) (s .rightConstant) rightSums v) → z ≡ combinations rightSums t
+      → z ≡ rightHalf s x
+  unfolding rightHalf
+  right-half e f =
+      f ∙ ap (combinations rightSums) (e ∙ ap (λ (u : List ℕ). rotations (s .bits) (s .rightAmounts) (sums (s .bits) (s .rightConstant) rightSums u)) same)
+
+module _ (s : Width) (z : List ℕ) {t x : List ℕ} where
+  pub undone-left : t ≡ unrotatedSums (s .bits) (s .leftConstant) (s .leftAmounts) leftUnxors z → x ≡ unsums (s .bits) leftInverse t → x ≡ unleft s z
+  unfolding unleft
+  undone-left e f = f ∙ ap (unsums (s .bits) leftInverse) e
+
+  pub undone-right : t ≡ unrotatedSums (s .bits) (s .rightConstant) (s .rightAmounts) rightUnxors z → x ≡ unsums (s .bits) rightInverse t
+      → x ≡ unright s z
+  unfolding unright
+  undone-right e f = f ∙ ap (unsums (s .bits) rightInverse) e

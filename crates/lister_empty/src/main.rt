@@ -1,4 +1,0 @@
-// The lister on an empty file.
-fn main() {
-    printing::print_file();
-}

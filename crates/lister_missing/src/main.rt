@@ -1,4 +1,0 @@
-// The lister without a file.
-fn main() {
-    printing::print_file();
-}

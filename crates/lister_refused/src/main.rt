@@ -1,4 +1,0 @@
-// The lister on a sheet whose second command has no opcode.
-fn main() {
-    printing::print_file();
-}

@@ -1,0 +1,45 @@
+// What product and divisions on lent bytes answer, decided by the width, the lengths of the operands and the room of the output.
+ghost use mathlib.Core.Path.{_≡_};
+ghost use mathlib.Core.Bool.{_&&_};
+ghost use lib.Dec.{eqb};
+ghost use lib.ListN.{length};
+ghost use Rattle.quasigroup.specs.Tables.{knownWidth};
+ghost use Rattle.operands.specs.Operation.{answerFor};
+use answer::Answer;
+use answer::Refusal;
+
+// Whether the width is 32 or 64.
+fn known_width(width: u32) -> bool
+    ensures { λ r. ⌜ r ≡ knownWidth width ⌝ }
+{
+    if width == 32 {
+        return true;
+    }
+    width == 64
+}
+
+fn operands_fit(w: usize, x: &[u8], y: &[u8]) -> bool
+    ensures { λ r. ⌜ r ≡ eqb (length (now (x .entry))) w && eqb (length (now (y .entry))) w ⌝ }
+{
+    if x.len() != w {
+        return false;
+    }
+    y.len() == w
+}
+
+// The answer, by the refusals in their order. Nothing is written.
+pub fn answer_for(width: u32, x: &[u8], y: &[u8], out: &[u8]) -> Answer
+    ensures { λ r. ⌜ r ≡ answerFor width (now (x .entry)) (now (y .entry)) (now (out .entry)) ⌝ }
+{
+    if !known_width(width) {
+        return Answer::Refused(Refusal::Width, 0);
+    }
+    let w = width as usize;
+    if !operands_fit(w, x, y) {
+        return Answer::Refused(Refusal::Operand, 0);
+    }
+    if out.len() < w {
+        return Answer::Refused(Refusal::Output, 0);
+    }
+    Answer::Done(width as u64)
+}

@@ -1,0 +1,96 @@
+-- The round trip of a list of runs.
+use mathlib.Core.Path.{_≡_, refl, sym, ap, _∙_}
+use mathlib.Core.Bool.{Bool}
+use mathlib.Core.List.{List, reverse}
+use Prim.Native.Nat.{ℕ, _*_}
+use borrow.Author.Tests.{eqb-true}
+use lib.Dec.{eqb}
+use lib.ListN.{length}
+use Rattle.answer.specs.declared.Answer.{Answer}
+use Rattle.answer.specs.declared.Answer.the-variants.{Done}
+use Rattle.answer.specs.Refuse.{outcome}
+use Rattle.invertible.specs.Invertible.{Invertible}
+use Rattle.invertible.proofs.Invertible.{stepped-map, outputs-map, reversal-undoes, outputs-back}
+use Rattle.quasigroup.proofs.Widths.{Bytewise, bytewise}
+use Rattle.memory.specs.Bytes.{Bytes}
+use Rattle.sheet.specs.Read.{placeCount}
+use Rattle.sheet.specs.Sheet.{planOf}
+use Rattle.sheet.specs.Work.{totalWork}
+use Rattle.sheet.specs.SheetAnswer.{sheetAnswer}
+use Rattle.sheet.specs.Run.{Direction, other, vectorsIn, vectorBytes, runVectors, runAnswer, runBytes}
+use Rattle.sheet.specs.RoundTrip.{Run, answerTo, after, afterAll, exchanged, RoundTrips}
+use Rattle.sheet.proofs.Lent.{bytes-of-vectors, state-length, vectors-bytes, bytes-vectors, lent-state}
+use Rattle.sheet.proofs.SheetAnswer.{Passed, refused-or}
+use Rattle.sheet.proofs.Undoing.{run-state, run-back}
+
+-- ---- one run
+
+module _ (g : Direction) (w : ℕ) (s : List ℕ) (hs : Bytes s) (b : List ℕ) (hb : Bytes b) where
+  abbrev fit : ℕ → Bool
+  fit n = eqb n (placeCount * w)
+
+  abbrev done : Answer
+  done = Done (totalWork w s (planOf w s .offsets))
+
+  -- the bytes after a run that is not refused
+  abbrev new : Direction → List ℕ → List ℕ
+  new g b = vectorBytes w (runVectors g w s (vectorsIn w b))
+
+  module _ (p : Passed w (fit (length b)) s) where
+    width : Bytewise w
+    width = bytewise w (p .width)
+
+    size : length b ≡ placeCount * w
+    size = eqb-true (length b) (placeCount * w) (p .operands)
+
+    new-length : length (new g b) ≡ length b
+    new-length = state-length w width (runVectors g w s (vectorsIn w b)) (run-state w width s hs (lent-state w width b hb) g) ∙ sym size
+
+    new-bytes : Bytes (new g b)
+    new-bytes = bytes-of-vectors w width (runVectors g w s (vectorsIn w b))
+
+    new-back : new (other g) (new g b) ≡ b
+    new-back =
+        let st = lent-state w width b hb in
+        let v = runVectors g w s (vectorsIn w b) in
+        ap (λ (v : List (List ℕ)). vectorBytes w (runVectors (other g) w s v)) (vectors-bytes w width v (run-state w width s hs st g))
+        ∙ ap (vectorBytes w) (run-back w width s hs st g)
+        ∙ bytes-vectors w width b hb size
+
+  -- what holds of b and, behind the tests, of the new bytes holds of what a run leaves
+  run-length : length (runBytes g w s b) ≡ length b
+  run-length = refused-or w (fit (length b)) s done (λ a. length (outcome a (new g b) b) ≡ length b) (λ r i. refl) new-length
+
+  run-bytes : Bytes (runBytes g w s b)
+  run-bytes = refused-or w (fit (length b)) s done (λ a. Bytes (outcome a (new g b) b)) (λ r i. hb) new-bytes
+
+  -- the same run in the other direction
+  same-answer : runAnswer w s (runBytes g w s b) ≡ runAnswer w s b
+  same-answer = ap (λ (n : ℕ). sheetAnswer w (fit n) s done) run-length
+
+  there-and-back : runBytes (other g) w s (runBytes g w s b) ≡ b
+  there-and-back =
+      let left : Answer → List ℕ = λ a. outcome a (new g b) b in
+      ap (λ (a : Answer). outcome a (new (other g) (runBytes g w s b)) (runBytes g w s b)) same-answer
+      ∙ refused-or w (fit (length b)) s done (λ a. outcome a (new (other g) (left a)) (left a) ≡ b) (λ r i. refl) new-back
+
+-- ---- a list of runs
+
+invertible : Invertible (λ (r : Run). Bytes (r .sheet)) Bytes after (λ r. after (exchanged r))
+invertible =
+    record {
+      keeps = λ r b hr hb. run-bytes (r .direction) (r .width) (r .sheet) hr b hb;
+      back = λ r b hr hb. there-and-back (r .direction) (r .width) (r .sheet) hr b hb;
+    }
+
+same-answers : (r : Run) (b : List ℕ) → Bytes (r .sheet) → Bytes b → answerTo (exchanged r) (after r b) ≡ answerTo r b
+same-answers r b hr hb = same-answer (r .direction) (r .width) (r .sheet) hr b hb
+
+pub round-trips : RoundTrips
+round-trips l hl b hb =
+    record {
+      bytes = stepped-map after exchanged (reverse l) (afterAll l b) ∙ reversal-undoes invertible hl b hb;
+      same =
+          outputs-map after answerTo exchanged (reverse l) (afterAll l b)
+          ∙ outputs-back invertible answerTo (λ r. answerTo (exchanged r)) same-answers hl b hb;
+    }
