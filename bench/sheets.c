@@ -14,7 +14,7 @@ struct runner {
     uint32_t width;
     const uint8_t *sheet;
     size_t sheet_len;
-    uint8_t vectors[256];
+    uint8_t vectors[VECTORS_64];
 };
 
 /* Each run starts from the vectors that the one before left. */
@@ -22,7 +22,7 @@ static void run_again(void *context, unsigned long rounds)
 {
     struct runner *runner = context;
     for (unsigned long i = 0; i < rounds; i++)
-        runner->run(runner->width, runner->vectors, 4 * (size_t)runner->width,
+        runner->run(runner->width, runner->vectors, EDONR_PLACES * (size_t)runner->width,
                     runner->sheet, runner->sheet_len);
 }
 
@@ -32,8 +32,9 @@ static size_t make_products(uint8_t *sheet, size_t commands)
     for (size_t i = 0; i < commands; i++) {
         uint8_t *command = sheet + PRODUCT_BYTES * i;
         command[0] = (uint8_t)(1 + i % 2);
-        command[1] = (uint8_t)(i % 4);
-        command[2] = (uint8_t)((i + 1 + i / 4 % 3) % 4);
+        size_t d = i % EDONR_PLACES, round = i / EDONR_PLACES;
+        command[1] = (uint8_t)d;
+        command[2] = (uint8_t)((d + 1 + round % (EDONR_PLACES - 1)) % EDONR_PLACES);
     }
     return PRODUCT_BYTES * commands;
 }
@@ -42,7 +43,7 @@ static size_t make_flips(uint8_t *sheet, size_t commands)
 {
     for (size_t i = 0; i < commands; i++) {
         sheet[FLIP_BYTES * i] = FLIP;
-        sheet[FLIP_BYTES * i + 1] = (uint8_t)(i % 4);
+        sheet[FLIP_BYTES * i + 1] = (uint8_t)(i % EDONR_PLACES);
     }
     return FLIP_BYTES * commands;
 }

@@ -135,10 +135,13 @@ uint64_t edonr_digest(uint32_t size, const uint8_t *message, size_t message_len,
 
 /* ============================ C. Sheets ============================ */
 
+#define EDONR_PLACES 4 /* the number of vectors that a sheet works on: V0 to V3 */
+
 /*
- * A sheet is 0 to 4,096 bytes of commands over four vectors of one width, V0 to V3, lent
- * as 4 * w bytes (128 or 256), V0 first. d and s are places, one byte each, 0 to 3; K is
- * a vector of w bytes. Command bytes are hexadecimal:
+ * A sheet is 0 to 4,096 bytes of commands over EDONR_PLACES vectors of one width, V0 to V3,
+ * lent as EDONR_PLACES * w bytes (128 or 256), V0 first. A place is the number of a vector,
+ * 0 to EDONR_PLACES - 1 (0 to 3). d and s are places, one byte each; K is a vector of w
+ * bytes. Command bytes are hexadecimal:
  *
  *   01 d s  lmul  Vd becomes Vs*Vd        05 d s  swap  Vd and Vs change over
  *   02 d s  rmul  Vd becomes Vd*Vs        06 d    flip  the words of Vd in reverse order
@@ -151,24 +154,25 @@ uint64_t edonr_digest(uint32_t size, const uint8_t *message, size_t message_len,
 #define EDONR_REFUSED_SHEET 7       /* the sheet is over 4,096 bytes */
 #define EDONR_REFUSED_COMMAND 8     /* a command byte is not 01 to 08 */
 #define EDONR_REFUSED_CUT_COMMAND 9 /* the sheet ends inside a command */
-#define EDONR_REFUSED_PLACE 10      /* a place is above 3 */
+#define EDONR_REFUSED_PLACE 10      /* a place is above EDONR_PLACES - 1 (3) */
 #define EDONR_REFUSED_SAME_PLACE 11 /* d equals s */
 
 /*
  * Does a sheet's commands in order.
  *
- * Reads    vectors, 4 * w bytes, and sheet, sheet_len bytes; an empty sheet is fine.
- * Writes   on success vectors, all 4 * w bytes: V0 to V3 after the last command.
+ * Reads    vectors, EDONR_PLACES * w bytes, and sheet, sheet_len bytes; an empty sheet is
+ *          fine.
+ * Writes   on success vectors, all EDONR_PLACES * w bytes: V0 to V3 after the last command.
  * Returns  the number of commands done, 0 to 2,048.
  * Refuses  in this order:
  *          5 EDONR_REFUSED_WIDTH   width is neither 32 nor 64;
- *          6 EDONR_REFUSED_LENGTH  vectors_len is not exactly 4 * w;
+ *          6 EDONR_REFUSED_LENGTH  vectors_len is not exactly EDONR_PLACES * w;
  *          7 EDONR_REFUSED_SHEET   sheet_len is over 4,096;
  *          then by the first faulty command, with the offset of its first byte, and
  *          within that command the first of
  *          8 EDONR_REFUSED_COMMAND      the command byte is not 01 to 08;
  *          9 EDONR_REFUSED_CUT_COMMAND  the sheet ends inside the command;
- *         10 EDONR_REFUSED_PLACE        a place is above 3;
+ *         10 EDONR_REFUSED_PLACE        a place is above EDONR_PLACES - 1 (3);
  *         11 EDONR_REFUSED_SAME_PLACE   d equals s.
  */
 uint64_t edonr_run_forward(uint32_t width, uint8_t *vectors, size_t vectors_len,
@@ -180,8 +184,10 @@ uint64_t edonr_run_forward(uint32_t width, uint8_t *vectors, size_t vectors_len,
  *
  * 01 and 03 undo each other, so do 02 and 04, and 07 and 08; 05 and 06 undo themselves.
  *
- * Reads    vectors, 4 * w bytes, and sheet, sheet_len bytes; an empty sheet is fine.
- * Writes   on success vectors, all 4 * w bytes: V0 to V3 after the first command is undone.
+ * Reads    vectors, EDONR_PLACES * w bytes, and sheet, sheet_len bytes; an empty sheet is
+ *          fine.
+ * Writes   on success vectors, all EDONR_PLACES * w bytes: V0 to V3 after the first command
+ *          is undone.
  * Returns  the number of commands undone, 0 to 2,048.
  * Refuses  what edonr_run_forward refuses, with the same answers: the first faulty command
  *          is counted from the front of the sheet here too.

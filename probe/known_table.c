@@ -29,6 +29,10 @@
 #define V1_64 BYTES_064 BYTES_096
 #define VECTORS_64 V0_64 V1_64 BYTES_128 BYTES_160 BYTES_192 BYTES_224 BYTES_250
 
+_Static_assert(sizeof(VECTORS_32) == 2 * EDONR_PLACES * 32 + 1 &&
+                   sizeof(VECTORS_64) == 2 * EDONR_PLACES * 64 + 1,
+               "there is a vector for every place");
+
 /* 250 bytes: at either width the padding does not fit into the block that they end in. */
 #define MESSAGE V0_64 V1_64 BYTES_128 BYTES_160 BYTES_192 BYTES_224
 

@@ -10,7 +10,9 @@
 #include <stddef.h>
 #include <stdint.h>
 
-enum { KNOWN_ANSWERS = 18, KNOWN_MOST_BYTES = 256 };
+#include "edonr.h"
+
+enum { KNOWN_ANSWERS = 18, KNOWN_MOST_BYTES = EDONR_PLACES * 64 };
 
 enum known_call {
     KNOWN_PRODUCT,        /* first * second */

@@ -8,7 +8,7 @@
 #include "edonr.h"
 #include "refusal.h"
 
-enum { PLACES = 4, KINDS = 8, LAST_OF_TWO_PLACES = 5, FLIP = 6 };
+enum { KINDS = 8, LAST_OF_TWO_PLACES = 5, FLIP = 6 };
 
 static uint64_t splitmix64(uint64_t *state)
 {
@@ -39,9 +39,10 @@ static size_t command_len(uint32_t width, uint8_t kind)
 static void make_command(uint64_t *state, uint32_t width, uint8_t kind, uint8_t *command)
 {
     command[0] = kind;
-    command[1] = (uint8_t)(splitmix64(state) % PLACES);
+    command[1] = (uint8_t)(splitmix64(state) % EDONR_PLACES);
     if (kind <= LAST_OF_TWO_PLACES)
-        command[2] = (uint8_t)((command[1] + 1 + splitmix64(state) % (PLACES - 1)) % PLACES);
+        command[2] = (uint8_t)((command[1] + 1 + splitmix64(state) % (EDONR_PLACES - 1)) %
+                               EDONR_PLACES);
     else if (kind != FLIP)
         fill(state, command + 2, width);
 }
@@ -63,7 +64,7 @@ static void make_load(const struct options *options, unsigned thread, struct loa
 {
     load->width = options->width;
     load->seed = options->seed + thread;
-    load->vectors_len = 4 * (size_t)options->width;
+    load->vectors_len = EDONR_PLACES * (size_t)options->width;
     uint64_t state = load->seed;
     fill(&state, load->vectors, load->vectors_len);
     make_sheet(&state, load);
@@ -92,10 +93,10 @@ static bool read_vectors(const char *name, struct load *load)
     if (!read_file(name, bytes, load->vectors_len + 1, &len))
         return false;
     if (len != load->vectors_len) {
-        fprintf(stderr, "edonr-probe: %s has %s than the %zu bytes of four vectors of width %"
+        fprintf(stderr, "edonr-probe: %s has %s than the %zu bytes of %d vectors of width %"
                         PRIu32 "\n",
                 name, len < load->vectors_len ? "fewer" : "more", load->vectors_len,
-                load->width);
+                EDONR_PLACES, load->width);
         return false;
     }
     memcpy(load->vectors, bytes, len);

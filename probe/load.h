@@ -1,12 +1,12 @@
 /*
- * What a thread is loaded with: four vectors and a sheet.
+ * What a thread is loaded with: vectors for all places and a sheet.
  *
  * From a seed both are made by splitmix64, whose state starts as the seed. The vectors come
  * first: each number gives eight bytes, the lowest first. Then the commands: a number
- * modulo 8 chooses among the kinds 01 to 08, a number modulo 4 is the place d, and a number
- * modulo 3 chooses s among the three other places in rising order from d + 1, round from 3
- * to 0; K is made as the vectors are. The sheet ends before the first command for which
- * 4,096 bytes leave no room.
+ * modulo 8 chooses among the kinds 01 to 08, a number modulo EDONR_PLACES is the place d,
+ * and a number modulo EDONR_PLACES - 1 chooses s among the other places in rising order
+ * from d + 1, round from the last to 0; K is made as the vectors are. The sheet ends before
+ * the first command for which 4,096 bytes leave no room.
  */
 #ifndef PROBE_LOAD_H
 #define PROBE_LOAD_H
@@ -15,9 +15,10 @@
 #include <stddef.h>
 #include <stdint.h>
 
+#include "edonr.h"
 #include "options.h"
 
-enum { MOST_VECTORS_BYTES = 4 * 64, MOST_SHEET_BYTES = 4096 };
+enum { MOST_VECTORS_BYTES = EDONR_PLACES * 64, MOST_SHEET_BYTES = 4096 };
 
 struct load {
     uint32_t width;

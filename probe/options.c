@@ -6,6 +6,8 @@
 #include <stdlib.h>
 #include <string.h>
 
+#include "edonr.h"
+
 enum { MOST_THREADS = 1024 };
 
 static const double default_seconds = 3, most_seconds = 1e9, least_interval = 0.01;
@@ -164,13 +166,17 @@ bool options_read(char **arguments, struct options *options)
     return true;
 }
 
+#define TEXT_EXPANDED(number) #number
+#define TEXT(number) TEXT_EXPANDED(number)
+
 static const char what_it_does[] =
     "usage: edonr-probe [option ...]\n"
     "\n"
     "Loads the machine with sheets of the EDON-R load kit and tells whether it came home.\n"
     "Before any thread starts, a few known answers are worked out, at both widths; if one\n"
-    "is wrong, the probe does not set out. Then a sheet is run forward over four vectors\n"
-    "again and again, and backward as many times. On a sound machine this gives the vectors\n"
+    "is wrong, the probe does not set out. Then a sheet is run forward, again and again,\n"
+    "over " TEXT(EDONR_PLACES)
+    " vectors, and backward as many times. On a sound machine this gives the vectors\n"
     "of the start back, bit for bit. The way home takes about as long as the way out.\n"
     "\n"
     "What coming home shows\n"
@@ -184,8 +190,8 @@ static const char what_it_does[] =
     "  --width 32|64      bits of a word (32)\n"
     "  --seed N           vectors and sheet are made from this number (1); thread T takes\n"
     "                     N + T\n"
-    "  --vectors FILE     vectors from a file: 4 * width bytes, V0 first; the same on\n"
-    "                     every thread\n"
+    "  --vectors FILE     vectors from a file: " TEXT(EDONR_PLACES) " * width bytes,\n"
+    "                     V0 first; the same on every thread\n"
     "  --sheet FILE       a sheet from a file: up to 4,096 bytes; the same on every thread\n"
     "  --threads N        as many threads (1), each with vectors of its own; all of them\n"
     "                     have to come home\n"

@@ -23,7 +23,7 @@ static const struct refusal refusals[] = {
     {EDONR_REFUSED_COMMAND, "EDONR_REFUSED_COMMAND", "a command byte is not 01 to 08"},
     {EDONR_REFUSED_CUT_COMMAND, "EDONR_REFUSED_CUT_COMMAND",
      "the sheet ends inside a command"},
-    {EDONR_REFUSED_PLACE, "EDONR_REFUSED_PLACE", "a place is above 3"},
+    {EDONR_REFUSED_PLACE, "EDONR_REFUSED_PLACE", "a place has no vector"},
     {EDONR_REFUSED_SAME_PLACE, "EDONR_REFUSED_SAME_PLACE", "d equals s"},
 };
 

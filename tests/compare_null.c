@@ -59,11 +59,12 @@ static void compare_digests(void)
 static void compare_runs(void)
 {
     static const uint8_t flips[4] = {6, 0, 6, 1};
-    uint8_t vectors[256];
+    uint8_t vectors[VECTORS_64];
     check_group("runs");
     for (unsigned n = 0; n < 4 * DIRECTIONS * 4; n++) {
         uint32_t width = widths[n % 4];
-        size_t vectors_len = slice_len(n / 4 / DIRECTIONS, 0, width == 64 ? 256 : 128);
+        size_t vectors_len =
+            slice_len(n / 4 / DIRECTIONS, 0, width == 64 ? VECTORS_64 : VECTORS_32);
         size_t sheet_len = slice_len(n / 4 / DIRECTIONS, 1, sizeof flips);
         struct run run = {(enum direction)(n / 4 % DIRECTIONS), width, flips, sheet_len};
         random_fill(vectors, sizeof vectors);
@@ -94,7 +95,7 @@ static void compare_pieces(enum kind kind)
 /* The same as numbers, without the reference. */
 static void check_points(void)
 {
-    uint8_t v[32] = {0}, vectors[128] = {0}, out[64];
+    uint8_t v[32] = {0}, vectors[VECTORS_32] = {0}, out[64];
     struct edonr_narrow narrow;
     struct edonr_wide wide;
     check_group("answers as numbers");
@@ -109,7 +110,7 @@ static void check_points(void)
     for (unsigned i = 0; i < DIRECTIONS; i++) {
         run_function *run = archive_runs[i];
         check(run(32, NULL, 0, v, 2) == REFUSED(6), "a run without vectors");
-        check(run(32, vectors, 128, NULL, 0) == 0, "a run without a sheet");
+        check(run(32, vectors, VECTORS_32, NULL, 0) == 0, "a run without a sheet");
     }
     check(edonr_narrow_open(&narrow, 256) == 0 && edonr_wide_open(&wide, 512) == 0,
           "openings");

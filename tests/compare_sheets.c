@@ -51,7 +51,7 @@ static void compare_random(uint32_t width)
         make_sheet(width, random_sheet_len(), &sheet);
         if (i % 3 == 0)
             damage_sheet(&sheet);
-        check_both_directions(width, sheet.bytes, sheet.len, 4 * width);
+        check_both_directions(width, sheet.bytes, sheet.len, EDONR_PLACES * width);
     }
 }
 
@@ -62,9 +62,10 @@ static void compare_full(uint32_t width)
     check_group("sheets of 4,096 and 4,097 bytes, width %" PRIu32, width);
     for (unsigned i = 0; i < FULL_SHEETS; i++) {
         make_sheet(width, SHEET_MOST_BYTES, &sheet);
-        check_both_directions(width, sheet.bytes, SHEET_MOST_BYTES, 4 * width);
+        check_both_directions(width, sheet.bytes, SHEET_MOST_BYTES, EDONR_PLACES * width);
         sheet.bytes[SHEET_MOST_BYTES] = (uint8_t)(i % 10);
-        check_both_directions(width, sheet.bytes, SHEET_MOST_BYTES + 1, 4 * width);
+        check_both_directions(width, sheet.bytes, SHEET_MOST_BYTES + 1,
+                              EDONR_PLACES * width);
     }
 }
 
@@ -74,10 +75,10 @@ static void check_counted(uint32_t width, size_t count, size_t len)
 {
     static struct sheet sheet;
     make_counted_sheet(width, count, len, &sheet);
-    check_both_directions(width, sheet.bytes, sheet.len, 4 * width);
+    check_both_directions(width, sheet.bytes, sheet.len, EDONR_PLACES * width);
     if (random_below(4) == 0) {
         damage_sheet(&sheet);
-        check_both_directions(width, sheet.bytes, sheet.len, 4 * width);
+        check_both_directions(width, sheet.bytes, sheet.len, EDONR_PLACES * width);
     }
 }
 
@@ -109,7 +110,7 @@ static void compare_lengths(uint32_t width)
     check_group("sheets of 0 to %d bytes, width %" PRIu32, SHEET_MOST_BYTES, width);
     for (size_t len = 0; len <= SHEET_MOST_BYTES; len += len == 0 ? 2 : 1) {
         make_sheet(width, len, &sheet);
-        check_both_directions(width, sheet.bytes, sheet.len, 4 * width);
+        check_both_directions(width, sheet.bytes, sheet.len, EDONR_PLACES * width);
     }
 }
 
@@ -121,17 +122,19 @@ static void compare_cut_commands(uint32_t width)
     for (unsigned code = 0; code < 256; code++) {
         random_fill(command, sizeof command);
         command[0] = (uint8_t)code;
-        command[1] = (uint8_t)(code % 4);
-        command[2] = (uint8_t)((code + 1) % 4);
+        command[1] = (uint8_t)(code % EDONR_PLACES);
+        command[2] = (uint8_t)((code + 1) % EDONR_PLACES);
         for (size_t len = 1; len <= 2 + width + 1; len++)
-            check_both_directions(width, command, len, 4 * width);
+            check_both_directions(width, command, len, EDONR_PLACES * width);
     }
 }
 
 /* Every command at sound and unsound places, behind a flip that a refusal must not do. */
 static void compare_places(uint32_t width)
 {
-    static const uint8_t places[] = {0, 1, 2, 3, 4, 5, 7, 8, 127, 128, 252, 255};
+    enum { N = EDONR_PLACES };
+    static const uint8_t places[] = {0,         1,     N - 2, N - 1, N,       N + 1,
+                                     2 * N - 1, 2 * N, 127,   128,   256 - N, 255};
     enum { COUNT = sizeof places };
     check_group("places, width %" PRIu32, width);
     for (unsigned n = 0; n < 8 * COUNT * COUNT; n++) {
@@ -139,7 +142,7 @@ static void compare_places(uint32_t width)
         uint8_t sheet[2 + 2 + 64] = {6, 0, code, places[n / COUNT % COUNT],
                                      places[n % COUNT]};
         size_t len = 2 + (code <= 5 ? 3 : code == 6 ? 2 : 2 + (size_t)width);
-        check_both_directions(width, sheet, len, 4 * width);
+        check_both_directions(width, sheet, len, EDONR_PLACES * width);
     }
 }
 
@@ -147,8 +150,18 @@ static void compare_places(uint32_t width)
 static void compare_refusal_order(void)
 {
     static const uint32_t some_widths[] = {32, 64, 0, 1, 31, 33, 63, 65, 128, 0xFFFFFFFF};
-    static const size_t vector_lens[] = {0,   1,   32,  64,  127, 128,
-                                         129, 255, 256, 257, 512, 1024};
+    static const size_t vector_lens[] = {0,
+                                         1,
+                                         32,
+                                         64,
+                                         VECTORS_32 - 1,
+                                         VECTORS_32,
+                                         VECTORS_32 + 1,
+                                         VECTORS_64 - 1,
+                                         VECTORS_64,
+                                         VECTORS_64 + 1,
+                                         2 * VECTORS_64,
+                                         RUN_CALL_VECTORS};
     static const size_t sheet_lens[] = {0, 1, 2, 3, 4, 5, 6, 34, 66, 4096, 4097, 8192};
     static const uint8_t codes[] = {0, 1, 5, 6, 7, 9};
     enum { N = 12 };
@@ -175,34 +188,34 @@ struct point {
 
 /* Answers as numbers, without the reference; bytes behind the four given are 0. */
 static const struct point points[] = {
-    {"an empty sheet", 32, 128, 0, {0}, 0},
-    {"an empty sheet, wide", 64, 256, 0, {0}, 0},
-    {"a flip", 32, 128, 2, {6, 0}, 1},
-    {"two flips", 32, 128, 4, {6, 2, 6, 3}, 2},
-    {"d = s", 32, 128, 3, {5, 1, 1}, REFUSED(11, 0)},
-    {"place and d = s", 32, 128, 3, {1, 4, 4}, REFUSED(10, 0)},
-    {"place, cut", 32, 128, 2, {1, 4}, REFUSED(9, 0)},
-    {"command byte after a flip", 32, 128, 3, {6, 0, 9}, REFUSED(8, 2)},
-    {"command byte 0", 64, 256, 1, {0}, REFUSED(8, 0)},
-    {"K of 31 bytes", 32, 128, 33, {7, 0}, REFUSED(9, 0)},
-    {"K of 32 bytes", 32, 128, 34, {7, 0}, 1},
-    {"K of 63 bytes", 64, 256, 65, {8, 0}, REFUSED(9, 0)},
-    {"K of 64 bytes", 64, 256, 66, {8, 0}, 1},
-    {"a cut K after a flip", 64, 256, 67, {6, 1, 7, 0}, REFUSED(9, 2)},
-    {"4,097 bytes, faulty at 0", 32, 128, 4097, {9}, REFUSED(7, 0)},
-    {"4,097 bytes", 64, 256, 4097, {6}, REFUSED(7, 0)},
-    {"lengths and sheet", 32, 256, 4097, {9}, REFUSED(6, 0)},
-    {"the other width's length", 64, 128, 0, {0}, REFUSED(6, 0)},
-    {"a length of 2^32 more", 32, OVER_32 + 128, 2, {6, 0}, REFUSED(6, 0)},
-    {"a sheet of 2^32 bytes more", 32, 128, OVER_32 + 2, {6, 0}, REFUSED(7, 0)},
-    {"a sheet of 2^32 bytes more, wide", 64, 256, OVER_32, {0}, REFUSED(7, 0)},
+    {"an empty sheet", 32, VECTORS_32, 0, {0}, 0},
+    {"an empty sheet, wide", 64, VECTORS_64, 0, {0}, 0},
+    {"a flip", 32, VECTORS_32, 2, {6, 0}, 1},
+    {"two flips", 32, VECTORS_32, 4, {6, 0, 6, EDONR_PLACES - 1}, 2},
+    {"d = s", 32, VECTORS_32, 3, {5, 1, 1}, REFUSED(11, 0)},
+    {"place and d = s", 32, VECTORS_32, 3, {1, EDONR_PLACES, EDONR_PLACES}, REFUSED(10, 0)},
+    {"place, cut", 32, VECTORS_32, 2, {1, EDONR_PLACES}, REFUSED(9, 0)},
+    {"command byte after a flip", 32, VECTORS_32, 3, {6, 0, 9}, REFUSED(8, 2)},
+    {"command byte 0", 64, VECTORS_64, 1, {0}, REFUSED(8, 0)},
+    {"K of 31 bytes", 32, VECTORS_32, 33, {7, 0}, REFUSED(9, 0)},
+    {"K of 32 bytes", 32, VECTORS_32, 34, {7, 0}, 1},
+    {"K of 63 bytes", 64, VECTORS_64, 65, {8, 0}, REFUSED(9, 0)},
+    {"K of 64 bytes", 64, VECTORS_64, 66, {8, 0}, 1},
+    {"a cut K after a flip", 64, VECTORS_64, 67, {6, 1, 7, 0}, REFUSED(9, 2)},
+    {"4,097 bytes, faulty at 0", 32, VECTORS_32, 4097, {9}, REFUSED(7, 0)},
+    {"4,097 bytes", 64, VECTORS_64, 4097, {6}, REFUSED(7, 0)},
+    {"lengths and sheet", 32, VECTORS_64, 4097, {9}, REFUSED(6, 0)},
+    {"the other width's length", 64, VECTORS_32, 0, {0}, REFUSED(6, 0)},
+    {"a length of 2^32 more", 32, OVER_32 + VECTORS_32, 2, {6, 0}, REFUSED(6, 0)},
+    {"a sheet of 2^32 bytes more", 32, VECTORS_32, OVER_32 + 2, {6, 0}, REFUSED(7, 0)},
+    {"a sheet of 2^32 bytes more, wide", 64, VECTORS_64, OVER_32, {0}, REFUSED(7, 0)},
     {"width, lengths and sheet", 33, 1, 4097, {9}, REFUSED(5, 0)},
 };
 
 static void check_points(void)
 {
     static uint8_t sheet[RUN_CALL_SHEET];
-    uint8_t vectors[256];
+    uint8_t vectors[VECTORS_64];
     check_group("answers as numbers");
     for (unsigned n = 0; n < DIRECTIONS * sizeof points / sizeof points[0]; n++) {
         const struct point *p = &points[n / DIRECTIONS];
@@ -220,9 +233,9 @@ static void check_points(void)
 }
 
 /* V0 = 1, 2, .., 8, or from 8 down to 1, and the other vectors 0, at width 32. */
-static void counting_vectors(uint8_t vectors[128], bool down)
+static void counting_vectors(uint8_t vectors[VECTORS_32], bool down)
 {
-    memset(vectors, 0, 128);
+    memset(vectors, 0, VECTORS_32);
     for (unsigned i = 0; i < 8; i++)
         vectors[4 * i] = (uint8_t)(down ? 8 - i : i + 1);
 }
@@ -232,24 +245,27 @@ static void check_flips(void)
 {
     static const struct run flip = {FORWARD, 32, (const uint8_t *)"\6\0", 2};
     static const struct run faulty = {FORWARD, 32, (const uint8_t *)"\6\0\11", 3};
-    uint8_t vectors[128], flipped[128], sheet[SHEET_MOST_BYTES];
+    uint8_t vectors[VECTORS_32], flipped[VECTORS_32], sheet[SHEET_MOST_BYTES];
     check_group("flips");
     counting_vectors(vectors, false);
     counting_vectors(flipped, true);
-    check(check_run_call(&flip, vectors, 128) == 1 && memcmp(vectors, flipped, 128) == 0,
+    check(check_run_call(&flip, vectors, VECTORS_32) == 1 &&
+              memcmp(vectors, flipped, VECTORS_32) == 0,
           "a flip of 1, 2, .., 8");
-    check(check_run_call(&faulty, vectors, 128) == REFUSED(8, 2) &&
-              memcmp(vectors, flipped, 128) == 0,
+    check(check_run_call(&faulty, vectors, VECTORS_32) == REFUSED(8, 2) &&
+              memcmp(vectors, flipped, VECTORS_32) == 0,
           "a refused sheet leaves V0 unflipped");
     memset(sheet, 6, sizeof sheet);
     for (unsigned i = 1; i < sizeof sheet; i += 2)
         sheet[i] = 0;
     struct run many = {FORWARD, 32, sheet, sizeof sheet};
-    check(check_run_call(&many, vectors, 128) == 2048 && memcmp(vectors, flipped, 128) == 0,
+    check(check_run_call(&many, vectors, VECTORS_32) == 2048 &&
+              memcmp(vectors, flipped, VECTORS_32) == 0,
           "2,048 flips");
     many.sheet_len -= 2;
     counting_vectors(flipped, false);
-    check(check_run_call(&many, vectors, 128) == 2047 && memcmp(vectors, flipped, 128) == 0,
+    check(check_run_call(&many, vectors, VECTORS_32) == 2047 &&
+              memcmp(vectors, flipped, VECTORS_32) == 0,
           "2,047 flips");
 }
 
@@ -265,13 +281,15 @@ struct list {
    for the other width. */
 static void make_list(struct list *list)
 {
-    static const size_t lens[] = {128, 256, 128, 256, 128, 256, 0, 100, 257};
+    static const size_t lens[] = {VECTORS_32, VECTORS_64, VECTORS_32,
+                                  VECTORS_64, VECTORS_32, VECTORS_64,
+                                  0,          100,        VECTORS_64 + 1};
     list->count = 1 + (unsigned)random_below(MOST_RUNS);
     list->vectors_len = lens[random_below(sizeof lens / sizeof lens[0])];
     for (unsigned i = 0; i < list->count; i++) {
         struct sheet *sheet = &list->sheets[i];
         uint64_t kind = random_below(16);
-        uint32_t width = list->vectors_len == 256 ? 64 : 32;
+        uint32_t width = list->vectors_len == VECTORS_64 ? 64 : 32;
         if (kind < 3)
             width = 96 - width;
         make_sheet(kind == 3 ? 96 - width : width, random_sheet_len(), sheet);

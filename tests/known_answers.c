@@ -67,7 +67,7 @@ static size_t result_len(const struct known *known)
     case KNOWN_DIGEST:
     case KNOWN_PIECES: return known->parameter / 8;
     case KNOWN_FORWARD:
-    case KNOWN_BACKWARD: return 4 * (size_t)known->parameter;
+    case KNOWN_BACKWARD: return EDONR_PLACES * (size_t)known->parameter;
     default: return known->parameter;
     }
 }

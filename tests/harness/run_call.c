@@ -6,7 +6,6 @@
 #include "../reference/answer.h"
 #include "../reference/sheet.h"
 #include "check.h"
-#include "edonr.h"
 #include "lent.h"
 
 run_function *const archive_runs[DIRECTIONS] = {edonr_run_forward, edonr_run_backward};

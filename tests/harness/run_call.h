@@ -7,6 +7,8 @@
 #include <stddef.h>
 #include <stdint.h>
 
+#include "edonr.h"
+
 enum direction { FORWARD, BACKWARD, DIRECTIONS };
 
 typedef uint64_t run_function(uint32_t width, uint8_t *vectors, size_t vectors_len,
@@ -15,9 +17,12 @@ typedef uint64_t run_function(uint32_t width, uint8_t *vectors, size_t vectors_l
 extern run_function *const archive_runs[DIRECTIONS];
 extern run_function *const reference_runs[DIRECTIONS];
 
+/* What the vectors of a run take at either width, in bytes. */
+enum { VECTORS_32 = EDONR_PLACES * 32, VECTORS_64 = EDONR_PLACES * 64 };
+
 /* The most vectors and the longest sheet that are lent, in bytes. What is longer is only
    claimed; no run accepts it. */
-enum { RUN_CALL_VECTORS = 1024, RUN_CALL_SHEET = 8192 };
+enum { RUN_CALL_VECTORS = 4 * VECTORS_64, RUN_CALL_SHEET = 8192 };
 
 struct run {
     enum direction direction;

@@ -2,9 +2,10 @@
 
 #include <stdbool.h>
 
+#include "edonr.h"
 #include "random.h"
 
-enum { LAST_OF_TWO_PLACES = 5, FLIP = 6, LAST_CODE = 8, PLACES = 4 };
+enum { LAST_OF_TWO_PLACES = 5, FLIP = 6, LAST_CODE = 8 };
 
 static size_t command_len(uint32_t width, unsigned code)
 {
@@ -31,9 +32,10 @@ static void add_command(uint32_t width, unsigned code, struct sheet *sheet)
     sheet->offsets[sheet->count++] = sheet->len;
     sheet->len += command_len(width, code);
     command[0] = (uint8_t)code;
-    command[1] = (uint8_t)random_below(PLACES);
+    command[1] = (uint8_t)random_below(EDONR_PLACES);
     if (code <= LAST_OF_TWO_PLACES)
-        command[2] = (uint8_t)((command[1] + 1 + random_below(PLACES - 1)) % PLACES);
+        command[2] =
+            (uint8_t)((command[1] + 1 + random_below(EDONR_PLACES - 1)) % EDONR_PLACES);
     if (code > FLIP)
         random_pattern(command + 2, width);
 }
@@ -88,7 +90,7 @@ static void change_byte(struct sheet *sheet)
 static void corrupt_place(uint8_t *command)
 {
     unsigned which = command[0] <= LAST_OF_TWO_PLACES ? 1 + (unsigned)random_below(2) : 1;
-    command[which] = (uint8_t)(PLACES + random_below(256 - PLACES));
+    command[which] = (uint8_t)(EDONR_PLACES + random_below(256 - EDONR_PLACES));
 }
 
 static void corrupt_code(uint8_t *command)

@@ -10,7 +10,10 @@ enum direction { FORWARD, BACKWARD };
 
 enum code { LMUL = 1, RMUL, LDIV, RDIV, SWAP, FLIP, KMUL, KDIV };
 
-/* The shortest command, a flip, takes two bytes. */
+/*
+ * The reference takes nothing from the kit's header, so the number of places stands here
+ * too. The shortest command, a flip, takes two bytes.
+ */
 enum { PLACES = 4, MOST_BYTES = 4096, MOST_COMMANDS = MOST_BYTES / 2 };
 
 /* Where each command of an accepted sheet begins. */

@@ -17,7 +17,7 @@
 
 #include "edonr.h"
 
-enum { MOST_VECTORS_BYTES = 256, MOST_FED_BYTES = 256 };
+enum { MOST_VECTORS_BYTES = EDONR_PLACES * 64, MOST_FED_BYTES = 256 };
 
 static bool is_chosen(const char *call, uint64_t parameter, const char *way)
 {

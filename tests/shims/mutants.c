@@ -136,7 +136,7 @@ static size_t offset_of(uint32_t width, const uint8_t *sheet, size_t count)
 static uint64_t answer_of(run_function *real, uint32_t width, size_t vectors_len,
                           const uint8_t *sheet, size_t sheet_len)
 {
-    uint8_t unused[256] = {0};
+    uint8_t unused[EDONR_PLACES * 64] = {0};
     return real(width, unused, vectors_len, sheet, sheet_len);
 }
 
