@@ -1,6 +1,6 @@
 -- Document 01, "Reference points": the points with a star, each shown of the definitions, together as one fact.
 use mathlib.Core.Path.{_≡_, refl}
-use mathlib.Core.List.{List, [], _∷_, _++_}
+use mathlib.Core.List.{List, [], _∷_, _++_, sum}
 use Prim.Native.Nat.{ℕ, _+_, _*_, _/_, _^_}
 use lib.ListN.{length, replicate}
 use Rattle.answer.specs.declared.Answer.the-variants.{Done}
@@ -57,7 +57,7 @@ pub record Points : Type 0 where
   pub sheets-64 : SheetPoints 64
 
 pub points : Points
-unfolding rotl sheetAnswer planOf readAt
+unfolding rotl sheetAnswer planOf readAt sum
 points =
     record {
       word = refl;

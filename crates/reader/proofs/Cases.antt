@@ -38,6 +38,3 @@ module _ (w : ℕ) (s : List ℕ) (i : ℕ) where
       of-one t d ed =
           let k : i + sizeOf w (getD s i 0) ≤ length s = omega arith in
           rw (ez, ed, lt-leb _ _ m, ne-eqb _ _ n, le-ltb _ _ l, le-ltb (length s) (i + sizeOf w (getD s i 0)) k, le-ltb _ _ t)
-
-pub size-three : (w b : ℕ) → b < 6 → sizeOf w b ≡ 3
-size-three w b h = rw (lt-ltb _ _ h)

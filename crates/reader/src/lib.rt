@@ -1,7 +1,9 @@
-// The code that reads one command of a load sheet, and the command that undoes it.
+// The code that reads one command of a load sheet with its units, and the command that undoes it.
 ghost use mathlib.Core.Path.{_≡_};
 ghost use Prim.Native.Nat.{_<_};
+ghost use Rattle.sheet.specs.Units.{units};
 ghost use Rattle.sheet.specs.Read.{sizeOf, twoPlaceCommand, twoPlaces, onePlaceCommand, onePlace, readAt};
+ghost use Rattle.sheet.specs.Read.{got as gotOf};
 ghost use Rattle.sheet.specs.Effect.{undone};
 use answer::Refusal;
 use sheet::Command;
@@ -33,6 +35,33 @@ fn size_of(width: u32, opcode: u8) -> usize
     if opcode == 6 { 2 } else { from_u32(width) + 2 }
 }
 
+// The units of a command: one for a product or a division, none for a swap or a flip.
+fn units_of(c: Command) -> usize
+    ensures { λ r. ⌜ r ≡ units c ⌝ }
+{
+    match c {
+        Command::Lmul(_) => 1,
+        Command::Rmul(_) => 1,
+        Command::Ldiv(_) => 1,
+        Command::Rdiv(_) => 1,
+        Command::Swap(_) => 0,
+        Command::Flip(_) => 0,
+        Command::Kmul(_, _) => 1,
+        Command::Kdiv(_, _) => 1,
+    }
+}
+
+// A command that was read; `next` is the offset behind it.
+fn got(c: Command, next: usize) -> Read
+    ensures { λ r. ⌜ r ≡ gotOf c next ⌝ }
+{
+    Read::Got(Decoded {
+        command: c,
+        next: next,
+        units: units_of(c),
+    })
+}
+
 // The command of two places with its opcode.
 fn two_place_command(opcode: u8, p: Places) -> Command
     ensures { λ r. ⌜ r ≡ twoPlaceCommand opcode p ⌝ }
@@ -59,10 +88,7 @@ fn two_places(opcode: u8, p: Places, next: usize) -> Read
     if p.d == p.s {
         return Read::Fault(Refusal::SamePlace);
     }
-    Read::Got(Decoded {
-        command: two_place_command(opcode, p),
-        next: next,
-    })
+    got(two_place_command(opcode, p), next)
 }
 
 // The command of one place with its opcode; `k` is the offset behind the place.
@@ -83,10 +109,7 @@ fn one_place(opcode: u8, d: usize, k: usize, next: usize) -> Read
     if PLACES <= d {
         return Read::Fault(Refusal::Place);
     }
-    Read::Got(Decoded {
-        command: one_place_command(opcode, d, k),
-        next: next,
-    })
+    got(one_place_command(opcode, d, k), next)
 }
 
 // What stands at the offset `at` of a sheet.

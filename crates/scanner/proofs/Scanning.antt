@@ -13,12 +13,13 @@ use Rattle.sheet.specs.declared.Summary.the-variants.{Whole, Faulty}
 use Rattle.sheet.specs.Read.{readAt}
 use Rattle.sheet.specs.Sheet as Plans
 use Rattle.sheet.specs.Sheet.{Outcome, refused, behind, scanFrom}
-use Rattle.sheet.specs.Work.{work, totalWork, summed, summary}
+use Rattle.sheet.specs.Work.{unitsIn, totalUnits, summed, summary}
 use Rattle.sheet.specs.Sound.{SoundDecoded}
+use Rattle.sheet.proofs.Work.{units-none, units-more}
 use Rattle.sheet.proofs.Scan.{scan-got, scan-fault, scan-end}
 
 module _ (w : ℕ) (s : List ℕ) where
-  -- n commands of the total work t are passed and i is reached: with what comes still, they are the whole sheet; l₀ is the lent array
+  -- n commands of t units are passed and i is reached: with what comes still, they are the whole sheet; l₀ is the lent array
   -- at the start, l as it is now
   pub record Scanning (l₀ l : List ℕ) (n t i : ℕ) : Type 0 where
     pub low : 2 * n ≤ i
@@ -27,7 +28,7 @@ module _ (w : ℕ) (s : List ℕ) where
     pub room : length l ≡ length l₀
     pub outcome : scanFrom (length s - n) w s i .outcome ≡ scanFrom (length s) w s 0 .outcome
     pub count : n + length (scanFrom (length s - n) w s i .offsets) ≡ length (scanFrom (length s) w s 0 .offsets)
-    pub total : t + totalWork w s (scanFrom (length s - n) w s i .offsets) ≡ totalWork w s (scanFrom (length s) w s 0 .offsets)
+    pub units : t + totalUnits w s (scanFrom (length s - n) w s i .offsets) ≡ totalUnits w s (scanFrom (length s) w s 0 .offsets)
     pub stored : sets l n (scanFrom (length s - n) w s i .offsets) ≡ sets l₀ 0 (scanFrom (length s) w s 0 .offsets)
 
   pub started : (l : List ℕ) → Scanning l l 0 0 0
@@ -40,14 +41,14 @@ module _ (w : ℕ) (s : List ℕ) where
         room = refl;
         outcome = rw e;
         count = rw e (omega arith);
-        total = rw e (omega arith);
+        units = rw e (omega arith);
         stored = rw e;
       }
 
   module _ {l₀ l : List ℕ} {n t i : ℕ} (now : Scanning l₀ l n t i) where
-    pub more : (d : Decoded) {l₁ : List ℕ} {k : ℕ} → readAt w s i ≡ Got d → SoundDecoded w (length s) i d → l₁ ≡ set l n i → k ≡ work (d .command) → k < 2
-        → Scanning l₀ l₁ (n + 1) (t + k) (d .next)
-    more d {l₁} {k} e h el ek few =
+    pub more : (d : Decoded) {l₁ : List ℕ} → readAt w s i ≡ Got d → SoundDecoded w (length s) i d → l₁ ≡ set l n i
+        → Scanning l₀ l₁ (n + 1) (t + d .units) (d .next)
+    more d {l₁} e h el =
         let f = length s - n in
         let low = now .low in
         let g = length s - (n + 1) in
@@ -55,8 +56,11 @@ module _ (w : ℕ) (s : List ℕ) where
         let step : scanFrom f w s i ≡ behind i (scanFrom g w s (d .next)) = scan-got w s f g i d fuel e in
         let on = h .on in
         let counted = rw step at (now .count) in
-        let summed = rw (step, e) at (now .total) in
-        let few₀ = now .few in
+        let rest = scanFrom g w s (d .next) .offsets in
+        let summed : t + (d .units + totalUnits w s rest) ≡ totalUnits w s (scanFrom (length s) w s 0 .offsets) =
+        rw (step, units-more w s i rest, e) at (now .units) in
+        let one = h .few in
+        let few = now .few in
         record {
           low = omega arith;
           few = omega arith;
@@ -64,7 +68,7 @@ module _ (w : ℕ) (s : List ℕ) where
           room = ap length el ∙ length-set l n i ∙ now .room;
           outcome = rw step at (now .outcome);
           count = omega arith;
-          total = omega arith;
+          units = omega arith;
           stored = ap (λ (j : ℕ). sets l₁ j (scanFrom g w s (d .next) .offsets)) (add-one n) ∙ rw el (rw step at (now .stored));
         }
 
@@ -81,9 +85,9 @@ module _ (w : ℕ) (s : List ℕ) where
     ended e =
         let step = scan-end w s (length s - n) i e in
         let count : n + 0 ≡ length (scanFrom (length s) w s 0 .offsets) = rw step at (now .count) in
-        let total : t + 0 ≡ totalWork w s (scanFrom (length s) w s 0 .offsets) = rw step at (now .total) in
+        let units : t + 0 ≡ totalUnits w s (scanFrom (length s) w s 0 .offsets) = rw (step, units-none w s) at (now .units) in
         let en : n ≡ length (scanFrom (length s) w s 0 .offsets) = omega arith in
-        let et : t ≡ totalWork w s (scanFrom (length s) w s 0 .offsets) = omega arith in
+        let et : t ≡ totalUnits w s (scanFrom (length s) w s 0 .offsets) = omega arith in
         let o : _≡_ {A = Outcome} Plans.Sound (scanFrom (length s) w s 0 .outcome) = rw step at (now .outcome) in (
           ap (λ (a : ℕ). Whole a t) en ∙ ap (Whole (length (scanFrom (length s) w s 0 .offsets))) et ∙ ap (summed w s (scanFrom (length s) w s 0 .offsets)) o,
           rw step at (now .stored),

@@ -4,20 +4,11 @@ ghost use Prim.Native.Nat.{_<_, _≤_};
 ghost use lib.ListN.{length, set};
 ghost use lib.Seq.{sets};
 ghost use Rattle.sheet.specs.Sheet.{scanFrom, planOf};
-ghost use Rattle.sheet.specs.Work.{work, summary};
+ghost use Rattle.sheet.specs.Work.{summary};
 use answer::Refusal;
-use sheet::Command;
 use sheet::LONGEST;
 use sheet::Read;
 use sheet::Summary;
-
-// What a command counts as work: each counts as one.
-fn work_of(c: Command) -> u64
-    ensures { λ r. ⌜ r ≡ work c ⌝ }
-    ensures { λ r. ⌜ r < 2 ⌝ }
-{
-    1
-}
 
 // `x` at place `i` of the lent array, where the array has that place.
 fn remember(offsets: &mut [u16], i: usize, x: u16)
@@ -35,19 +26,18 @@ fn scan(width: u32, sheet: &[u8], offsets: &mut [u16]) -> Summary
     ensures { λ r. let s = now (sheet .entry) in ⌜ now (offsets .exit) ≡ sets (now (offsets .entry)) 0 (scanFrom (length s) width s 0 .offsets) ⌝ }
 {
     let mut count: usize = 0;
-    let mut total: u64 = 0;
+    let mut units: usize = 0;
     let mut at: usize = 0;
     loop {
         match reader::read_command(width, sheet, at) {
             Read::Got(d) => {
-                let c = d.command;
                 remember(offsets, count, at as u16);
                 count += 1;
-                total += work_of(c);
+                units += d.units;
                 at = d.next;
             }
             Read::Fault(r) => return Summary::Faulty(r, at as u32),
-            Read::End => return Summary::Whole(count, total),
+            Read::End => return Summary::Whole(count, units),
         }
     }
 }

@@ -11,15 +11,15 @@ use Rattle.answer.specs.declared.Refusal.the-variants.{Sheet}
 use Rattle.sheet.specs.declared.Summary.the-variants.{Whole, Faulty}
 use Rattle.sheet.specs.Sheet as Plans
 use Rattle.sheet.specs.Sheet.{Outcome, Plan, scanFrom, planOf}
-use Rattle.sheet.specs.Work.{totalWork, summed, summary}
+use Rattle.sheet.specs.Work.{totalUnits, summed, summary}
 use Rattle.sheet.proofs.Scan.{plan-scanned, plan-long}
-use Rattle.sheet.proofs.Rest.{few-commands}
+use Rattle.sheet.proofs.Rest.{few-commands, few-units}
 
 -- what a summary tells of the plan
 pub record Checked (w : ℕ) (s l : List ℕ) (o : Outcome) (n t : ℕ) : Type 0 where
   pub sound : o ≡ Plans.Sound
   pub count : n ≡ length l
-  pub total : t ≡ totalWork w s l
+  pub total : t ≡ totalUnits w s l
 
 summed-whole : (w : ℕ) (s l : List ℕ) (o : Outcome) (n t : ℕ) → Whole n t ≡ summed w s l o → Checked w s l o n t
 summed-whole w s l Plans.Sound n t e = record { sound = refl; count = cc; total = cc }
@@ -48,6 +48,12 @@ module _ (w : ℕ) (s : List ℕ) (e : planOf w s .outcome ≡ Plans.Sound) wher
   -- .. and has at most 2,048 commands
   pub sound-few : length (planOf w s .offsets) ≤ 2048
   sound-few = let h : 2 * length (planOf w s .offsets) ≤ length s = rw (plan-scanned w s sound-short) at (few-commands w s) in omega (arith, sound-short)
+
+  -- .. and no more than 1,365 that count
+  pub sound-units : 1 ≤ w → totalUnits w s (planOf w s .offsets) ≤ 1365
+  sound-units l =
+      let h : 3 * totalUnits w s (planOf w s .offsets) ≤ length s = rw (plan-scanned w s sound-short) at (few-units w s l) in
+      omega (arith, sound-short)
 
 -- a sheet that was found sound
 module _ (w : ℕ) (s : List ℕ) {n t : ℕ} (e : Whole n t ≡ summary w s (planOf w s)) where

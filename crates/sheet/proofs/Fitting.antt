@@ -16,9 +16,8 @@ use Rattle.sheet.specs.Sound.{SoundRead}
 use Rattle.sheet.specs.Fitting.{RunFits}
 use Rattle.answer.proofs.Tests.{split}
 use Rattle.sheet.proofs.Sound.{read-sound}
-use Rattle.sheet.proofs.Rest.{work-is-count}
 use Rattle.sheet.proofs.SheetAnswer.{by-tests}
-use Rattle.sheet.proofs.Checked.{sound-few}
+use Rattle.sheet.proofs.Counting.{few-run}
 
 -- a fault lies in a sheet of n bytes
 abbrev Inside : ℕ → Outcome → Type 0
@@ -52,4 +51,4 @@ module _ (w : ℕ) (s : List ℕ) where
 pub run-fits : RunFits
 run-fits w s b =
     by-tests w _ s _ (Fits (2 ^ 32)) (λ _. omega arith) (λ _. omega arith) (fault-fits w s)
-    (λ p. omega (arith, sound-few w s (p .sheet), work-is-count w s))
+    (λ p. omega (arith, few-run w s (p .width) (p .sheet)))

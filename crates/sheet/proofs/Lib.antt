@@ -1,4 +1,5 @@
 pub mod Sound
+pub mod Work
 pub mod Scan
 pub mod Rest
 pub mod SheetAnswer
@@ -6,6 +7,7 @@ pub mod Checked
 pub mod Enough
 pub mod Lent
 pub mod Undoing
+pub mod Counting
 pub mod RoundTrip
 pub mod Fitting
 pub mod Ran

@@ -1,20 +1,19 @@
 -- A scan from any offset: how many commands may come is no matter once they are enough.
 use mathlib.Core.Path.{_≡_, refl, ap, sym, _∙_}
-use mathlib.Core.List.{List, []}
+use mathlib.Core.List.{List, [], _∷_}
 use Prim.Native.Nat.{ℕ, zero, suc, _+_, _-_, _*_, _≤_}
 use native.Mathlib.Omega.{arith}
-use lib.Dec.{ltb}
 use lib.ListN.{length}
 use Rattle.answer.specs.declared.Refusal.{Refusal}
 use Rattle.sheet.specs.declared.Decoded.{Decoded}
 use Rattle.sheet.specs.declared.Read.{Read}
 use Rattle.sheet.specs.declared.Read.the-variants.{Got, Fault, End}
 use Rattle.sheet.specs.Read.{readAt}
-use Rattle.sheet.specs.Sheet.{Plan, refused, behind, continue, scanFrom, planOf}
-use Rattle.sheet.specs.Work.{totalWork}
+use Rattle.sheet.specs.Sheet.{Plan, refused, behind, continue, scanFrom}
+use Rattle.sheet.specs.Work.{unitsIn, totalUnits}
 use Rattle.sheet.specs.Sound.{SoundRead}
-use Rattle.answer.proofs.Tests.{split}
 use Rattle.sheet.proofs.Sound.{read-sound}
+use Rattle.sheet.proofs.Work.{units-none, units-more}
 use Rattle.sheet.proofs.Scan.{read-end, scan-got, scan-fault, scan-end}
 
 module _ (w : ℕ) (s : List ℕ) where
@@ -53,17 +52,19 @@ module _ (w : ℕ) (s : List ℕ) where
   pub few-commands : 2 * length (scanFrom (length s) w s 0 .offsets) ≤ length s
   few-commands = omega (arith, few (length s) 0)
 
-  -- the work of a sheet is the number of its commands
-  counted-with : (r : Read) (i : ℕ) (F : ℕ → Plan) → readAt w s i ≡ r → ((n : ℕ) → totalWork w s (F n .offsets) ≡ length (F n .offsets))
-      → totalWork w s (continue r i F .offsets) ≡ length (continue r i F .offsets)
-  counted-with (Got d) i F e k = rw e (omega (arith, k (d .next)))
-  counted-with (Fault r) i F e k = refl
-  counted-with End i F e k = refl
+  -- one that counts takes three, where a K takes any
+  units-with : (r : Read) (i : ℕ) (F : ℕ → Plan) → readAt w s i ≡ r → SoundRead w (length s) i r → 1 ≤ w
+      → ((n : ℕ) → 3 * totalUnits w s (F n .offsets) ≤ length s - n) → 3 * totalUnits w s (continue r i F .offsets) ≤ length s - i
+  units-with (Got d) i F e h l k =
+      let u : totalUnits w s (i ∷ F (d .next) .offsets) ≡ d .units + totalUnits w s (F (d .next) .offsets) =
+      units-more w s i (F (d .next) .offsets) ∙ ap (λ (r : Read). unitsIn r + totalUnits w s (F (d .next) .offsets)) e in
+      omega (arith, k (d .next), h .taken l, h .within)
+  units-with (Fault r) i F e h l k = omega (arith, units-none w s)
+  units-with End i F e h l k = omega (arith, units-none w s)
 
-  pub counted : (f i : ℕ) → totalWork w s (scanFrom f w s i .offsets) ≡ length (scanFrom f w s i .offsets)
-  counted zero i = refl
-  counted (suc f) i = counted-with (readAt w s i) i (scanFrom f w s) refl (counted f)
+  units-from : 1 ≤ w → (f i : ℕ) → 3 * totalUnits w s (scanFrom f w s i .offsets) ≤ length s - i
+  units-from l zero i = omega (arith, units-none w s)
+  units-from l (suc f) i = units-with (readAt w s i) i (scanFrom f w s) refl (read-sound w s i) l (units-from l f)
 
-  pub work-is-count : totalWork w s (planOf w s .offsets) ≡ length (planOf w s .offsets)
-  unfolding planOf
-  work-is-count = split (λ (p : Plan). totalWork w s (p .offsets) ≡ length (p .offsets)) (ltb 4096 (length s)) _ _ (λ _. refl) (λ _. counted (length s) 0)
+  pub few-units : 1 ≤ w → 3 * totalUnits w s (scanFrom (length s) w s 0 .offsets) ≤ length s
+  few-units l = omega (arith, units-from l (length s) 0)

@@ -15,7 +15,7 @@ use Rattle.quasigroup.proofs.Widths.{Bytewise, bytewise}
 use Rattle.memory.specs.Bytes.{Bytes}
 use Rattle.sheet.specs.Read.{placeCount}
 use Rattle.sheet.specs.Sheet.{planOf}
-use Rattle.sheet.specs.Work.{totalWork}
+use Rattle.sheet.specs.Work.{totalUnits}
 use Rattle.sheet.specs.SheetAnswer.{sheetAnswer}
 use Rattle.sheet.specs.Run.{Direction, other, vectorsIn, vectorBytes, runVectors, runAnswer, runBytes}
 use Rattle.sheet.specs.RoundTrip.{Run, answerTo, after, afterAll, exchanged, RoundTrips}
@@ -30,7 +30,7 @@ module _ (g : Direction) (w : ℕ) (s : List ℕ) (hs : Bytes s) (b : List ℕ) 
   fit n = eqb n (placeCount * w)
 
   abbrev done : Answer
-  done = Done (totalWork w s (planOf w s .offsets))
+  done = Done (totalUnits w s (planOf w s .offsets))
 
   -- the bytes after a run that is not refused
   abbrev new : Direction → List ℕ → List ℕ

@@ -2,16 +2,19 @@
 use mathlib.Core.Path.{_≡_, sym, subst}
 use mathlib.Core.Bool.{cond, _||_}
 use mathlib.Core.List.{List}
-use Prim.Native.Nat.{ℕ, _+_, _≤_, _<_}
+use Prim.Native.Nat.{ℕ, _+_, _*_, _≤_, _<_}
 use native.Mathlib.Omega.{arith}
-use borrow.Author.Tests.{ltb-false, leb-true, leb-false, eqb-false, ne-eqb}
+use borrow.Author.Tests.{ltb-true, ltb-false, leb-true, leb-false, eqb-false, lt-ltb, le-ltb, ne-eqb}
 use lib.Dec.{eqb, leb, ltb}
 use lib.ListN.{length, getD}
 use Rattle.answer.specs.declared.Refusal.{Refusal}
 use Rattle.answer.proofs.Tests.{split, neither}
 use Rattle.sheet.specs.declared.Places.{Places}
+use Rattle.sheet.specs.declared.Command.{Command}
+use Rattle.sheet.specs.declared.Command.the-variants.{Lmul, Rmul, Ldiv, Rdiv, Swap, Flip, Kmul, Kdiv}
 use Rattle.sheet.specs.declared.Decoded.{Decoded}
 use Rattle.sheet.specs.declared.Read.the-variants.{Got, Fault}
+use Rattle.sheet.specs.Units.{units}
 use Rattle.sheet.specs.Sound.{SoundPlaces, SoundVector, SoundCommand, SoundDecoded, SoundRead}
 use Rattle.sheet.specs.Read.{placeCount, sizeOf, twoPlaceCommand, twoPlaces, onePlaceCommand, onePlace, readAt}
 
@@ -19,6 +22,22 @@ pub size-two : (w b : ℕ) → 2 ≤ sizeOf w b
 size-two w b =
     split (λ n. 2 ≤ n) (ltb b 6) 3 (cond (eqb b 6) 2 (w + 2)) (λ _. omega arith) λ _.
     split (λ n. 2 ≤ n) (eqb b 6) 2 (w + 2) (λ _. omega arith) (λ _. omega arith)
+
+pub size-three : (w b : ℕ) → b < 6 → sizeOf w b ≡ 3
+size-three w b h = rw (lt-ltb b 6 h)
+
+size-key : (w b : ℕ) → 6 ≤ b → (b ≡ 6 → ⊥) → sizeOf w b ≡ w + 2
+size-key w b h e = rw (le-ltb b 6 h, ne-eqb b 6 e)
+
+at-most-one : (c : Command) → units c ≤ 1
+at-most-one (Lmul p) = omega arith
+at-most-one (Rmul p) = omega arith
+at-most-one (Ldiv p) = omega arith
+at-most-one (Rdiv p) = omega arith
+at-most-one (Swap p) = omega arith
+at-most-one (Flip d) = omega arith
+at-most-one (Kmul d k) = omega arith
+at-most-one (Kdiv d k) = omega arith
 
 module _ (w n i : ℕ) (m : i < n) (b next : ℕ) (on : i + 2 ≤ next) (within : next ≤ n) where
   two-command : (p : Places) → SoundPlaces p → SoundCommand w n (twoPlaceCommand b p)
@@ -36,8 +55,8 @@ module _ (w n i : ℕ) (m : i < n) (b next : ℕ) (on : i + 2 ≤ next) (within 
       let v : SoundVector w n d (i + 2) = record { place = l; within = k (eqb-false b 6 g) } in
       split P (eqb b 7) _ _ (λ _. v) (λ _. v)
 
-  two-sound : (p : Places) → SoundRead w n i (twoPlaces b p next)
-  two-sound p =
+  two-sound : i + 3 ≤ next → (p : Places) → SoundRead w n i (twoPlaces b p next)
+  two-sound three p =
       let P = SoundRead w n i in
       split P (leb placeCount (p .d) || leb placeCount (p .s)) _ _ (λ _. m) λ f.
       split P (eqb (p .d) (p .s)) _ _ (λ _. m) λ g.
@@ -45,13 +64,27 @@ module _ (w n i : ℕ) (m : i < n) (b next : ℕ) (on : i + 2 ≤ next) (within 
       let first = leb-false placeCount (p .d) (h .0) in
       let second = leb-false placeCount (p .s) (h .1) in
       let q : SoundPlaces p = record { first = first; second = second; apart = λ e. eqb-false (p .d) (p .s) g (sym e) } in
-      record { sound = two-command p q; on = on; within = within }
+      let few = at-most-one (twoPlaceCommand b p) in
+      record { sound = two-command p q; on = on; within = within; few = few; taken = λ _. omega arith }
 
-  one-sound : (d : ℕ) → ((b ≡ 6 → ⊥) → i + 2 + w ≤ n) → SoundRead w n i (onePlace b d (i + 2) next)
+  one-taken : (d k : ℕ) → ((b ≡ 6 → ⊥) → i + 2 + w ≤ next) → 1 ≤ w → i + 3 * units (onePlaceCommand b d k) ≤ next
+  one-taken d k l h =
+      let P : Command → Type 0 = λ c. i + 3 * units c ≤ next in
+      split P (eqb b 6) _ _ (λ _. omega arith) λ g.
+      let z : i + 2 + w ≤ next = l (eqb-false b 6 g) in
+      split P (eqb b 7) _ _ (λ _. omega arith) (λ _. omega arith)
+
+  one-sound : (d : ℕ) → ((b ≡ 6 → ⊥) → i + 2 + w ≤ next) → SoundRead w n i (onePlace b d (i + 2) next)
   one-sound d k =
       let P = SoundRead w n i in
       split P (leb placeCount d) _ _ (λ _. m) λ f.
-      record { sound = one-command d (leb-false placeCount d f) k; on = on; within = within }
+      record {
+        sound = one-command d (leb-false placeCount d f) (λ e. let z : i + 2 + w ≤ next = k e in omega arith);
+        on = on;
+        within = within;
+        few = at-most-one (onePlaceCommand b d (i + 2));
+        taken = one-taken d (i + 2) k;
+      }
 
 pub read-sound : (w : ℕ) (s : List ℕ) (i : ℕ) → SoundRead w (length s) i (readAt w s i)
 unfolding readAt
@@ -64,8 +97,9 @@ read-sound w s i =
     split P (ltb (length s) (i + sizeOf w b)) _ _ (λ _. m) λ g.
     let z : i + sizeOf w b ≤ length s = ltb-false (length s) (i + sizeOf w b) g in
     let t : i + 2 ≤ i + sizeOf w b = omega (arith, size-two w b) in
-    split P (ltb b 6) _ _ (λ _. two-sound w (length s) i m b (i + sizeOf w b) t z (record { d = getD s (i + 1) 0; s = getD s (i + 2) 0 })) λ l.
-    one-sound w (length s) i m b (i + sizeOf w b) t z (getD s (i + 1) 0) (λ e. let q : i + (w + 2) ≤ length s = rw (l, ne-eqb b 6 e) at z in omega arith)
+    split P (ltb b 6) _ _
+    (λ l. two-sound w (length s) i m b (i + sizeOf w b) t z (omega (arith, size-three w b (ltb-true b 6 l))) (record { d = getD s (i + 1) 0; s = getD s (i + 2) 0 })) λ l.
+    one-sound w (length s) i m b (i + sizeOf w b) t z (getD s (i + 1) 0) (λ e. omega (arith, size-key w b (ltb-false b 6 l) e))
 
 pub got-sound : (w : ℕ) (s : List ℕ) (i : ℕ) {d : Decoded} → readAt w s i ≡ Got d → SoundDecoded w (length s) i d
 got-sound w s i e = subst (SoundRead w (length s) i) e (read-sound w s i)

@@ -1,3 +1,4 @@
+pub mod Units
 pub mod Read
 pub mod Sheet
 pub mod Enough
@@ -5,6 +6,7 @@ pub mod Effect
 pub mod Work
 pub mod SheetAnswer
 pub mod Run
+pub mod Counting
 pub mod RoundTrip
 pub mod Fitting
 pub mod Sound

@@ -11,6 +11,7 @@ use Rattle.sheet.specs.declared.Command.{Command}
 use Rattle.sheet.specs.declared.Command.the-variants.{Lmul, Rmul, Ldiv, Rdiv, Swap, Flip, Kmul, Kdiv}
 use Rattle.sheet.specs.declared.Read.{Read}
 use Rattle.sheet.specs.declared.Read.the-variants.{Got, Fault, End}
+use Rattle.sheet.specs.Units.{units}
 
 -- the number of vectors: V0 to V3
 abbrev pub placeCount : ℕ
@@ -33,9 +34,9 @@ twoPlaceCommand b p =
 abbrev pub onePlaceCommand : ℕ → ℕ → ℕ → Command
 onePlaceCommand b d k = cond (eqb b 6) (Flip d) (cond (eqb b 7) (Kmul d k) (Kdiv d k))
 
--- a command that was read, with the offset n behind it
+-- a command that was read, with the offset n behind it and its units
 abbrev pub got : Command → ℕ → Read
-got c n = Got (record { command = c; next = n })
+got c n = Got (record { command = c; next = n; units = units c })
 
 -- a command of two places: both are below placeCount, and they differ
 abbrev pub twoPlaces : ℕ → Places → ℕ → Read

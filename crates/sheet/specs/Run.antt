@@ -14,7 +14,7 @@ use Rattle.sheet.specs.declared.Read.the-variants.{Got, Fault, End}
 use Rattle.sheet.specs.Read.{placeCount, readAt}
 use Rattle.sheet.specs.Sheet.{planOf}
 use Rattle.sheet.specs.Effect.{vectorAt, effect, undone}
-use Rattle.sheet.specs.Work.{totalWork}
+use Rattle.sheet.specs.Work.{totalUnits}
 use Rattle.sheet.specs.SheetAnswer.{sheetAnswer}
 
 pub data Direction : Type 0 where
@@ -65,9 +65,9 @@ vectorsIn w b = vectorsFrom w placeCount b 0
 abbrev pub runVectors : Direction → ℕ → List ℕ → List (List ℕ) → List (List ℕ)
 runVectors g w s v = steps g w s (order g (planOf w s .offsets)) v
 
--- A run at width w of the sheet s over the lent bytes b. Its answer: 5; 6, the vectors are not placeCount * w bytes; 7 to 11; or the work done
+-- A run at width w of the sheet s over the lent bytes b. Its answer: 5; 6, the vectors are not placeCount * w bytes; 7 to 11; or the work done, in units
 abbrev pub runAnswer : ℕ → List ℕ → List ℕ → Answer
-runAnswer w s b = sheetAnswer w (eqb (length b) (placeCount * w)) s (Done (totalWork w s (planOf w s .offsets)))
+runAnswer w s b = sheetAnswer w (eqb (length b) (placeCount * w)) s (Done (totalUnits w s (planOf w s .offsets)))
 
 -- .. and the bytes afterwards: a refused run moves nothing
 abbrev pub runBytes : Direction → ℕ → List ℕ → List ℕ → List ℕ

@@ -1,7 +1,7 @@
 -- What holds of a command that was read: its places are places, and its K lies in the sheet. Of contracts, only those of functions inside the kit
 -- cite this.
 use mathlib.Core.Path.{_≡_}
-use Prim.Native.Nat.{ℕ, _+_, _≤_, _<_}
+use Prim.Native.Nat.{ℕ, _+_, _*_, _≤_, _<_}
 use Rattle.sheet.specs.Read.{placeCount}
 use Rattle.sheet.specs.declared.Places.{Places}
 use Rattle.sheet.specs.declared.Command.{Command}
@@ -30,11 +30,14 @@ SoundCommand w n (Flip d) = d < placeCount
 SoundCommand w n (Kmul d k) = SoundVector w n d k
 SoundCommand w n (Kdiv d k) = SoundVector w n d k
 
--- .. read at offset i: the offset behind it is further on, and in the sheet
+-- .. read at offset i: the offset behind it is further on, and in the sheet; it counts one unit at most, and where a K takes a byte or more, one that
+-- counts takes three bytes or more
 pub record SoundDecoded (w n i : ℕ) (d : Decoded) : Type 0 where
   pub sound : SoundCommand w n (d .command)
   pub on : i + 2 ≤ d .next
   pub within : d .next ≤ n
+  pub few : d .units ≤ 1
+  pub taken : 1 ≤ w → i + 3 * d .units ≤ d .next
 
 -- of what was read at offset i
 abbrev pub SoundRead : ℕ → ℕ → ℕ → Read → Type 0

@@ -28,10 +28,11 @@ pub enum Command {
     Kdiv(usize, usize),
 }
 
-// A command that was read, and the offset behind it.
+// A command that was read, the offset behind it, and its units: 1 if it counts as work, and else 0.
 pub struct Decoded {
     pub command: Command,
     pub next: usize,
+    pub units: usize,
 }
 
 // What stands at an offset of a sheet: a command, a fault, or the sheet's end.
@@ -41,8 +42,8 @@ pub enum Read {
     End,
 }
 
-// What the check of a whole sheet finds: the number of commands and their work, or the first fault and its command's offset.
+// What the check of a whole sheet finds: the number of commands and then their units, or the first fault and its command's offset.
 pub enum Summary {
-    Whole(usize, u64),
+    Whole(usize, usize),
     Faulty(Refusal, u32),
 }

@@ -1,5 +1,5 @@
-// Document 01's points on sheets that are run: at width 32, a K of 31 bytes and one of 32; 2,048 flips; 4,097 bytes. Then, at both widths, a
-// sheet with every command, forward and backward again.
+// The points on sheets that are run. Document 01's at width 32: a K of 31 bytes and one of 32, 4,097 bytes. Document 02's, Paper 3: one flip, and
+// 2,048 of them, which count nothing. Then, at both widths, a sheet with every command, forward and backward again: of its eight, six count.
 ghost use mathlib.Core.Path.{_≡_};
 ghost use lib.ListN.{length};
 use answer::Answer;
@@ -329,6 +329,7 @@ fn main() {
     whole[0] = 7;
     whole[1] = 0;
     print_run(b"K of 32 bytes", &whole);
+    print_run(b"one flip", &[6u8, 0]);
     print_run(b"2,048 flips", &flips());
     print_run(b"4,097 bytes", &[6u8; 4097]);
     narrow_round();

@@ -3,9 +3,9 @@ use borrow.Author.Needs.{needs}
 use native.Mathlib.Omega.{arith}
 use denote.Ref.{now}
 use lib.ListN.{getD}
-use Rattle.sheet.proofs.Sound.{size-two}
+use Rattle.sheet.proofs.Sound.{size-two, size-three}
 use Rattle.sheet.proofs.Scan.{read-end}
-use Rattle.reader.proofs.Cases.{opcode-zero, opcode-high, truncated, of-two, of-one, size-three}
+use Rattle.reader.proofs.Cases.{opcode-zero, opcode-high, truncated, of-two, of-one}
 use Rattle.reader.proofs.read_command.Statement.{statement}
 use Rattle.reader.proofs.read_command.Tie as tie
 

@@ -21,9 +21,10 @@ returns-3 c =
 
 returns-4 : tie.Need-returns-4
 returns-4 c =
-    let p = c .before in
+    let p = c .before .before in
     let t = p .before .before in
-    rw (lt-leb _ _ (t .before .before .if1 .left), lt-leb _ _ (t .if2 .left), ne-eqb _ _ (p .if3 .left), c .two-place-command .ensures)
+    rw (lt-leb _ _ (t .before .before .if1 .left), lt-leb _ _ (t .if2 .left), ne-eqb _ _ (p .if3 .left), ← c .before .two-place-command .ensures)
+    (c .got .ensures)
 
 pub two-places-spec : {M : Type 1} → statement M
-two-places-spec = tie.close (tie.spec returns returns-2 returns-3 (λ c κs. search needs) returns-4)
+two-places-spec = tie.close (tie.spec returns returns-2 returns-3 (λ c κs. search needs) (λ c κs. search needs) returns-4)

@@ -33,7 +33,7 @@ returns-2 c =
     let k = g .before .before .before in
     let t = k .before .before in
     let p = t .before .before .before .before in
-    forward-whole (p .args .width) (now (p .args .sheet)) (now (p .args .vectors)) (sym (g .work .given .1) ∙ k .check .ensures .0)
+    forward-whole (p .args .width) (now (p .args .sheet)) (now (p .args .vectors)) (sym (g .units .given .1) ∙ k .check .ensures .0)
     (p .pre) (goes-on (t .before .vectors-fit .ensures) (t .if1 .left)) (f .forward .last .1 .1 .0)
     (λ i. omega (arith, c .slice-known2 .given i)) (search needs) (f .forward .ensures)
 

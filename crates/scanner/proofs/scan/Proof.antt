@@ -10,11 +10,11 @@ use Rattle.scanner.proofs.scan.Statement.{statement}
 use Rattle.scanner.proofs.scan.Tie as tie
 
 abbrev Inv-loop : tie.InvT-loop
-Inv-loop width sheet offsets₀ count₀ total₀ at₀ offsets count total at =
-    (length sheet ≤ 4096) × Scanning width sheet offsets₀ offsets count total at
+Inv-loop width sheet offsets₀ count₀ units₀ at₀ offsets count units at =
+    (length sheet ≤ 4096) × Scanning width sheet offsets₀ offsets count units at
 
 abbrev μ-loop : tie.MeasureT-loop
-μ-loop width sheet offsets₀ count₀ total₀ at₀ offsets count total at = length sheet - at
+μ-loop width sheet offsets₀ count₀ units₀ at₀ offsets count units at = length sheet - at
 
 loop-holds : tie.Need-loop-holds Inv-loop μ-loop
 loop-holds c = let p = c .before .before in (p .pre, started (p .args .width) (now (p .args .sheet)) (now (p .args .offsets)))
@@ -34,11 +34,13 @@ remember-requires c κs = search needs
 add-count : tie.Need-add-count Inv-loop μ-loop
 add-count c = search needs
 
-work-of-requires : tie.Need-work-of-requires Inv-loop μ-loop
-work-of-requires c κs = search needs
-
-add-total : tie.Need-add-total Inv-loop μ-loop
-add-total c = search needs
+add-units : tie.Need-add-units Inv-loop μ-loop
+add-units c =
+    let g = c .before .before .before .before .before .before in
+    let p = g .before .before .before in
+    let a = p .before .before .before .args in
+    let h = got-sound (a .width) (now (a .sheet)) (p .loop .at) (sym (g .before .before .read-command .ensures) ∙ g .d .given .1) in
+    omega (arith, h .few)
 
 loop-less : tie.Need-loop-less Inv-loop μ-loop
 loop-less c =
@@ -59,14 +61,14 @@ loop-again c =
     let e = sym (g .before .before .read-command .ensures) ∙ g .d .given .1 in
     let h = got-sound (a .width) (now (a .sheet)) (p .loop .at) e in (
       p .loop .inv .0,
-      more (a .width) (now (a .sheet)) (p .loop .inv .1) (g .d .given .0 .0) e h (m .remember .ensures) (c .work-of .ensures .0) (c .work-of .ensures .1),
+      more (a .width) (now (a .sheet)) (p .loop .inv .1) (g .d .given .0 .0) e h (m .remember .ensures),
     )
 
 enum-known-r : tie.Need-enum-known-r Inv-loop μ-loop
 enum-known-r c = search needs
 
-cast-t16 : tie.Need-cast-t16 Inv-loop μ-loop
-cast-t16 c = search needs
+cast-t14 : tie.Need-cast-t14 Inv-loop μ-loop
+cast-t14 c = search needs
 
 same-length : tie.Need-same-length Inv-loop μ-loop
 same-length c = c .before .before .before .before .loop .inv .1 .room
@@ -95,5 +97,5 @@ pub scan-spec : {M : Type 1} → statement M
 scan-spec =
     tie.close
     (tie.spec
-    Inv-loop μ-loop loop-holds read-command-requires enum-known-d cast-remember remember-requires add-count work-of-requires
-    add-total loop-less loop-again enum-known-r cast-t16 same-length returns enum-told same-length-2 returns-2)
+    Inv-loop μ-loop loop-holds read-command-requires enum-known-d cast-remember remember-requires add-count
+    add-units loop-less loop-again enum-known-r cast-t14 same-length returns enum-told same-length-2 returns-2)

@@ -10,9 +10,9 @@ use Rattle.sheet.specs.Read.{placeCount}
 use Rattle.sheet.specs.Sheet.{scanFrom}
 use Rattle.sheet.specs.Run.{Forward, steps, vectorsIn}
 use Rattle.sheet.proofs.Sound.{got-sound}
-use Rattle.run.proofs.Loops.{forward-more, forward-fault, forward-end}
-use Rattle.run.proofs.forward.Statement.{statement}
-use Rattle.run.proofs.forward.Tie as tie
+use Rattle.interpreter.proofs.Loops.{forward-more, forward-fault, forward-end}
+use Rattle.interpreter.proofs.forward.Statement.{statement}
+use Rattle.interpreter.proofs.forward.Tie as tie
 
 abbrev Inv-loop : tie.InvT-loop
 Inv-loop width sheet vectors₀ at₀ vectors at =

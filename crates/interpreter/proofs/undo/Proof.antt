@@ -6,9 +6,9 @@ use Rattle.sheet.specs.Run.{vectorsIn}
 use Rattle.sheet.specs.Sound.{SoundCommand}
 use Rattle.sheet.proofs.Sound.{got-sound}
 use Rattle.sheet.proofs.Undoing.{sound-undone}
-use Rattle.run.proofs.Loops.{undone-got, undone-fault, undone-end}
-use Rattle.run.proofs.undo.Statement.{statement}
-use Rattle.run.proofs.undo.Tie as tie
+use Rattle.interpreter.proofs.Loops.{undone-got, undone-fault, undone-end}
+use Rattle.interpreter.proofs.undo.Statement.{statement}
+use Rattle.interpreter.proofs.undo.Tie as tie
 
 apply-requires : tie.Need-apply-requires
 apply-requires c κs =

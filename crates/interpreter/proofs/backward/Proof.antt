@@ -9,9 +9,9 @@ use lib.ListN.{length, take}
 use Rattle.quasigroup.specs.Tables.{knownWidth}
 use Rattle.sheet.specs.Read.{placeCount}
 use Rattle.sheet.specs.Run.{Backward, steps, vectorsIn}
-use Rattle.run.proofs.Loops.{backward-more}
-use Rattle.run.proofs.backward.Statement.{statement}
-use Rattle.run.proofs.backward.Tie as tie
+use Rattle.interpreter.proofs.Loops.{backward-more}
+use Rattle.interpreter.proofs.backward.Statement.{statement}
+use Rattle.interpreter.proofs.backward.Tie as tie
 
 abbrev Inv-loop : tie.InvT-loop
 Inv-loop width sheet offsets n vectors₀ done₀ vectors done =
