@@ -149,6 +149,11 @@ uint64_t edonr_digest(uint32_t size, const uint8_t *message, size_t message_len,
  *   04 d s  rdiv  Vd becomes Vd/Vs        08 d K  kdiv  Vd becomes K\Vd
  *
  * In 01 to 05, d and s differ. The whole sheet is checked before any vector changes.
+ *
+ * Work is counted in units: one for each product or division, so for 01 to 04, 07 and 08,
+ * and none for 05 and 06. A command and the one that undoes it have the same units. A
+ * command that counts takes three bytes or more, so a sheet has 0 to 1,365 (4,096 / 3). A
+ * sheet of swaps and flips alone has none.
  */
 
 #define EDONR_REFUSED_SHEET 7       /* the sheet is over 4,096 bytes */
@@ -163,7 +168,7 @@ uint64_t edonr_digest(uint32_t size, const uint8_t *message, size_t message_len,
  * Reads    vectors, EDONR_PLACES * w bytes, and sheet, sheet_len bytes; an empty sheet is
  *          fine.
  * Writes   on success vectors, all EDONR_PLACES * w bytes: V0 to V3 after the last command.
- * Returns  the number of commands done, 0 to 2,048.
+ * Returns  the units of the commands done, 0 to 1,365.
  * Refuses  in this order:
  *          5 EDONR_REFUSED_WIDTH   width is neither 32 nor 64;
  *          6 EDONR_REFUSED_LENGTH  vectors_len is not exactly EDONR_PLACES * w;
@@ -188,7 +193,8 @@ uint64_t edonr_run_forward(uint32_t width, uint8_t *vectors, size_t vectors_len,
  *          fine.
  * Writes   on success vectors, all EDONR_PLACES * w bytes: V0 to V3 after the first command
  *          is undone.
- * Returns  the number of commands undone, 0 to 2,048.
+ * Returns  the units of the commands undone, 0 to 1,365: what a forward run of the sheet
+ *          returns.
  * Refuses  what edonr_run_forward refuses, with the same answers: the first faulty command
  *          is counted from the front of the sheet here too.
  */

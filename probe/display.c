@@ -56,14 +56,14 @@ static void show_out(struct display *display, const struct progress *threads,
     for (unsigned i = 0; i < display->options->threads; i++) {
         double seconds = threads[i].turned_at > 0 ? threads[i].turned_at : elapsed;
         runs += threads[i].runs;
-        rate += (double)threads[i].runs * (double)display->loads[i].commands / seconds;
+        rate += (double)threads[i].runs * (double)display->loads[i].units / seconds;
     }
     const struct mark *mark = &threads[0].mark;
     if (mark->runs == 0)
-        show(display, "out   %.1f s, %" PRIu64 " runs, %.2f M commands/s", elapsed, runs,
+        show(display, "out   %.1f s, %" PRIu64 " runs, %.2f M units/s", elapsed, runs,
              rate * 1e-6);
     else
-        show(display, "out   %.1f s, %" PRIu64 " runs, %.2f M commands/s, digest %.8s.. of "
+        show(display, "out   %.1f s, %" PRIu64 " runs, %.2f M units/s, digest %.8s.. of "
                       "run %" PRIu64,
              elapsed, runs, rate * 1e-6, mark->digest, mark->runs);
 }
@@ -143,9 +143,9 @@ static void tell_turn(struct display *display, const struct progress *threads)
     for (unsigned i = 0; i < display->options->threads; i++)
         if (threads[i].turned_at > 0)
             printf("turn  thread %u at %.2f s, %" PRIu64 " runs of %" PRIu64
-                   " commands, digest %s\n",
-                   i, threads[i].turned_at, threads[i].runs, display->loads[i].commands,
-                   threads[i].mark.digest);
+                   " units in %" PRIu64 " commands, digest %s\n",
+                   i, threads[i].turned_at, threads[i].runs, display->loads[i].units,
+                   display->loads[i].commands, threads[i].mark.digest);
 }
 
 void display_open(struct display *display, const struct options *options,

@@ -119,22 +119,40 @@ static void share_files(const struct options *options, const struct load *from,
     }
 }
 
+static void tell_of_sheet(const struct options *options, const struct load *load,
+                          const char *text)
+{
+    if (options->sheet != NULL)
+        fprintf(stderr, "edonr-probe: sheet %s: %s\n", options->sheet, text);
+    else
+        fprintf(stderr, "edonr-probe: sheet of seed %" PRIu64 ": %s\n", load->seed, text);
+}
+
+/* By the opcodes of an accepted sheet: no call tells it. */
+static uint64_t count_commands(const struct load *load)
+{
+    uint64_t count = 0;
+    for (size_t at = 0; at < load->sheet_len;
+         at += command_len(load->width, load->sheet[at]))
+        count++;
+    return count;
+}
+
 /* A run over a copy of the vectors tells what the sheet's runs have to answer. */
 static bool try_sheet(const struct options *options, struct load *load)
 {
     uint8_t vectors[MOST_VECTORS_BYTES];
     memcpy(vectors, load->vectors, load->vectors_len);
-    load->commands = edonr_run_forward(load->width, vectors, load->vectors_len, load->sheet,
-                                       load->sheet_len);
-    if (edonr_refusal(load->commands) == 0)
-        return true;
-    char text[ANSWER_TEXT];
-    answer_text(load->commands, text, sizeof text);
-    if (options->sheet != NULL)
-        fprintf(stderr, "edonr-probe: sheet %s: %s\n", options->sheet, text);
-    else
-        fprintf(stderr, "edonr-probe: sheet of seed %" PRIu64 ": %s\n", load->seed, text);
-    return false;
+    load->units = edonr_run_forward(load->width, vectors, load->vectors_len, load->sheet,
+                                    load->sheet_len);
+    if (edonr_refusal(load->units) != 0) {
+        char text[ANSWER_TEXT];
+        answer_text(load->units, text, sizeof text);
+        tell_of_sheet(options, load, text);
+        return false;
+    }
+    load->commands = count_commands(load);
+    return true;
 }
 
 bool load_prepare(const struct options *options, struct load *loads)
@@ -147,8 +165,12 @@ bool load_prepare(const struct options *options, struct load *loads)
         return false;
     for (unsigned i = 1; i < options->threads; i++)
         share_files(options, &loads[0], &loads[i]);
-    for (unsigned i = 0; i < options->threads; i++)
+    for (unsigned i = 0; i < options->threads; i++) {
         if (!try_sheet(options, &loads[i]))
             return false;
+        /* All threads have the sheet of a file, and one warning is enough. */
+        if (loads[i].units == 0 && (i == 0 || options->sheet == NULL))
+            tell_of_sheet(options, &loads[i], "warning: 0 units, so it loads nothing");
+    }
     return true;
 }

@@ -27,11 +27,13 @@ struct load {
     size_t vectors_len;
     uint8_t sheet[MOST_SHEET_BYTES + 1]; /* one byte more shows a file that is too long */
     size_t sheet_len;
-    uint64_t commands; /* the answer that every run of the sheet has to give */
+    uint64_t units;    /* the answer that every run of the sheet has to give */
+    uint64_t commands; /* how many there are in the sheet */
 };
 
 /* One load for each thread. False, and a message on stderr, if a file cannot be read or
-   its sheet is refused. */
+   its sheet is refused. A sheet of no units loads nothing: a message on stderr warns of
+   it. */
 bool load_prepare(const struct options *options, struct load *loads);
 
 #endif

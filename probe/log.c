@@ -17,9 +17,15 @@ bool log_open(const struct options *options, struct log *log)
         fprintf(stderr, "edonr-probe: cannot open %s: %s\n", log->name, strerror(errno));
         return false;
     }
-    fprintf(log->file, "elapsed,runs,commands,digest%s\n",
+    fprintf(log->file, "elapsed,runs,units,units_per_second,commands,digest%s\n",
             log->names_threads ? ",thread" : "");
     return true;
+}
+
+/* A coarse clock may not have moved yet. */
+static double units_per_second(const struct mark *mark)
+{
+    return mark->elapsed > 0 ? (double)mark->units / mark->elapsed : 0;
 }
 
 void log_write(struct log *log, unsigned thread, const struct mark *mark)
@@ -27,8 +33,8 @@ void log_write(struct log *log, unsigned thread, const struct mark *mark)
     if (log->file == NULL)
         return;
     pthread_mutex_lock(&log->lock);
-    fprintf(log->file, "%.3f,%" PRIu64 ",%" PRIu64 ",%s", mark->elapsed, mark->runs,
-            mark->commands, mark->digest);
+    fprintf(log->file, "%.3f,%" PRIu64 ",%" PRIu64 ",%.0f,%" PRIu64 ",%s", mark->elapsed,
+            mark->runs, mark->units, units_per_second(mark), mark->commands, mark->digest);
     if (log->names_threads)
         fprintf(log->file, ",%u", thread);
     fprintf(log->file, "\n");

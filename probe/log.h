@@ -17,6 +17,7 @@ enum { MOST_DIGEST_TEXT = 2 * 64 + 1 };
 struct mark {
     double elapsed;
     uint64_t runs;
+    uint64_t units;
     uint64_t commands;
     char digest[MOST_DIGEST_TEXT];
 };
@@ -32,7 +33,8 @@ struct log {
 /* False, and a message on stderr, if the file cannot be opened. */
 bool log_open(const struct options *options, struct log *log);
 
-/* A row is in the file when this returns, so that it outlives a machine that stops. */
+/* Units a second are the mean from the start on. A row is in the file when this returns,
+   so that it outlives a machine that stops. */
 void log_write(struct log *log, unsigned thread, const struct mark *mark);
 
 /* False, and a message on stderr, if anything could not be written. */

@@ -71,18 +71,18 @@ static void tell_fault(const struct options *options, unsigned thread,
 
 static void tell_way(const struct options *options, const struct progress *threads)
 {
-    uint64_t runs = 0, commands = 0;
+    uint64_t runs = 0, units = 0;
     double out = 0, home = 0;
     for (unsigned i = 0; i < options->threads; i++) {
         double back = threads[i].ended_at - threads[i].turned_at;
         runs += threads[i].runs;
-        commands += threads[i].mark.commands;
+        units += threads[i].mark.units;
         out = threads[i].turned_at > out ? threads[i].turned_at : out;
         home = back > home ? back : home;
     }
-    double millions = (double)commands * 1e-6;
-    printf("%u thread%s, %" PRIu64 " runs, out in %.2f s (%.2f M commands/s), home in %.2f s "
-           "(%.2f M commands/s)\n",
+    double millions = (double)units * 1e-6;
+    printf("%u thread%s, %" PRIu64 " runs, out in %.2f s (%.2f M units/s), home in %.2f s "
+           "(%.2f M units/s)\n",
            options->threads, options->threads > 1 ? "s" : "", runs, out, millions / out, home,
            millions / home);
 }

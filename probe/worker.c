@@ -35,7 +35,7 @@ static bool run_sheet(struct worker *worker, run_function *run, enum fault_kind 
     const struct load *load = worker->load;
     uint64_t answer = run(load->width, worker->vectors, load->vectors_len, load->sheet,
                           load->sheet_len);
-    return check_answer(answer, load->commands, kind, number, progress);
+    return check_answer(answer, load->units, kind, number, progress);
 }
 
 static bool take_mark(struct worker *worker, double elapsed, struct progress *progress)
@@ -49,6 +49,7 @@ static bool take_mark(struct worker *worker, double elapsed, struct progress *pr
     struct mark *mark = &progress->mark;
     mark->elapsed = elapsed;
     mark->runs = progress->runs;
+    mark->units = progress->runs * worker->load->units;
     mark->commands = progress->runs * worker->load->commands;
     for (size_t i = 0; i < size / 8; i++)
         snprintf(mark->digest + 2 * i, 3, "%02x", digest[i]);

@@ -23,6 +23,11 @@ enum {
 
 static const uint32_t widths[2] = {32, 64};
 
+static size_t command_len(uint32_t width, uint8_t code)
+{
+    return code <= 5 ? 3 : code == 6 ? 2 : 2 + (size_t)width;
+}
+
 /* Mostly short sheets, some of any length; never of one byte, which no command fills. */
 static size_t random_sheet_len(void)
 {
@@ -141,8 +146,8 @@ static void compare_places(uint32_t width)
         uint8_t code = (uint8_t)(1 + n / (COUNT * COUNT));
         uint8_t sheet[2 + 2 + 64] = {6, 0, code, places[n / COUNT % COUNT],
                                      places[n % COUNT]};
-        size_t len = 2 + (code <= 5 ? 3 : code == 6 ? 2 : 2 + (size_t)width);
-        check_both_directions(width, sheet, len, EDONR_PLACES * width);
+        check_both_directions(width, sheet, 2 + command_len(width, code),
+                              EDONR_PLACES * width);
     }
 }
 
@@ -190,17 +195,30 @@ struct point {
 static const struct point points[] = {
     {"an empty sheet", 32, VECTORS_32, 0, {0}, 0},
     {"an empty sheet, wide", 64, VECTORS_64, 0, {0}, 0},
-    {"a flip", 32, VECTORS_32, 2, {6, 0}, 1},
-    {"two flips", 32, VECTORS_32, 4, {6, 0, 6, EDONR_PLACES - 1}, 2},
+    {"lmul", 32, VECTORS_32, 3, {1, 0, 1}, 1},
+    {"rmul", 32, VECTORS_32, 3, {2, 0, 1}, 1},
+    {"ldiv", 32, VECTORS_32, 3, {3, 0, 1}, 1},
+    {"rdiv", 32, VECTORS_32, 3, {4, 0, 1}, 1},
+    {"swap", 32, VECTORS_32, 3, {5, 0, 1}, 0},
+    {"flip", 32, VECTORS_32, 2, {6, 0}, 0},
+    {"kmul", 32, VECTORS_32, 34, {7, 0}, 1},
+    {"kdiv", 32, VECTORS_32, 34, {8, 0}, 1},
+    {"lmul, wide", 64, VECTORS_64, 3, {1, 0, 1}, 1},
+    {"rmul, wide", 64, VECTORS_64, 3, {2, 0, 1}, 1},
+    {"ldiv, wide", 64, VECTORS_64, 3, {3, 0, 1}, 1},
+    {"rdiv, wide", 64, VECTORS_64, 3, {4, 0, 1}, 1},
+    {"swap, wide", 64, VECTORS_64, 3, {5, 0, 1}, 0},
+    {"flip, wide", 64, VECTORS_64, 2, {6, 0}, 0},
+    {"kmul, wide", 64, VECTORS_64, 66, {7, 0}, 1},
+    {"kdiv, wide", 64, VECTORS_64, 66, {8, 0}, 1},
+    {"two flips", 32, VECTORS_32, 4, {6, 0, 6, EDONR_PLACES - 1}, 0},
     {"d = s", 32, VECTORS_32, 3, {5, 1, 1}, REFUSED(11, 0)},
     {"place and d = s", 32, VECTORS_32, 3, {1, EDONR_PLACES, EDONR_PLACES}, REFUSED(10, 0)},
     {"place, cut", 32, VECTORS_32, 2, {1, EDONR_PLACES}, REFUSED(9, 0)},
     {"command byte after a flip", 32, VECTORS_32, 3, {6, 0, 9}, REFUSED(8, 2)},
     {"command byte 0", 64, VECTORS_64, 1, {0}, REFUSED(8, 0)},
     {"K of 31 bytes", 32, VECTORS_32, 33, {7, 0}, REFUSED(9, 0)},
-    {"K of 32 bytes", 32, VECTORS_32, 34, {7, 0}, 1},
     {"K of 63 bytes", 64, VECTORS_64, 65, {8, 0}, REFUSED(9, 0)},
-    {"K of 64 bytes", 64, VECTORS_64, 66, {8, 0}, 1},
     {"a cut K after a flip", 64, VECTORS_64, 67, {6, 1, 7, 0}, REFUSED(9, 2)},
     {"4,097 bytes, faulty at 0", 32, VECTORS_32, 4097, {9}, REFUSED(7, 0)},
     {"4,097 bytes", 64, VECTORS_64, 4097, {6}, REFUSED(7, 0)},
@@ -240,7 +258,7 @@ static void counting_vectors(uint8_t vectors[VECTORS_32], bool down)
         vectors[4 * i] = (uint8_t)(down ? 8 - i : i + 1);
 }
 
-/* The points of document 01 that flip, without the reference. */
+/* The points of documents 01 and 02 that flip, without the reference. */
 static void check_flips(void)
 {
     static const struct run flip = {FORWARD, 32, (const uint8_t *)"\6\0", 2};
@@ -249,7 +267,7 @@ static void check_flips(void)
     check_group("flips");
     counting_vectors(vectors, false);
     counting_vectors(flipped, true);
-    check(check_run_call(&flip, vectors, VECTORS_32) == 1 &&
+    check(check_run_call(&flip, vectors, VECTORS_32) == 0 &&
               memcmp(vectors, flipped, VECTORS_32) == 0,
           "a flip of 1, 2, .., 8");
     check(check_run_call(&faulty, vectors, VECTORS_32) == REFUSED(8, 2) &&
@@ -259,14 +277,55 @@ static void check_flips(void)
     for (unsigned i = 1; i < sizeof sheet; i += 2)
         sheet[i] = 0;
     struct run many = {FORWARD, 32, sheet, sizeof sheet};
-    check(check_run_call(&many, vectors, VECTORS_32) == 2048 &&
+    check(check_run_call(&many, vectors, VECTORS_32) == 0 &&
               memcmp(vectors, flipped, VECTORS_32) == 0,
           "2,048 flips");
     many.sheet_len -= 2;
     counting_vectors(flipped, false);
-    check(check_run_call(&many, vectors, VECTORS_32) == 2047 &&
+    check(check_run_call(&many, vectors, VECTORS_32) == 0 &&
               memcmp(vectors, flipped, VECTORS_32) == 0,
           "2,047 flips");
+}
+
+/* As many commands of one code as 4,096 bytes hold, over V0 and with V1 and K = 0. Returns
+   the bytes that one takes. */
+static size_t fill_with(uint32_t width, uint8_t code, uint8_t sheet[SHEET_MOST_BYTES])
+{
+    size_t len = command_len(width, code);
+    memset(sheet, 0, SHEET_MOST_BYTES);
+    for (size_t at = 0; at + len <= SHEET_MOST_BYTES; at += len) {
+        sheet[at] = code;
+        if (code <= 5)
+            sheet[at + 2] = 1;
+    }
+    return len;
+}
+
+/* The sheet in both directions has to answer so many units, whatever the reference says. */
+static void check_answers(uint32_t width, const uint8_t *sheet, size_t sheet_len,
+                          uint64_t units)
+{
+    uint8_t vectors[VECTORS_64];
+    random_fill(vectors, sizeof vectors);
+    for (enum direction d = FORWARD; d < DIRECTIONS; d++) {
+        struct run run = {d, width, sheet, sheet_len};
+        uint64_t got = check_run_call(&run, vectors, EDONR_PLACES * (size_t)width);
+        check(got == units, "commands %u in %zu bytes: answered %" PRIx64, sheet[0],
+              sheet_len, got);
+    }
+}
+
+/* Sheets of one kind of command, from the most to none. */
+static void check_units(uint32_t width)
+{
+    static const unsigned units[] = {[1] = 1, 1, 1, 1, 0, 0, 1, 1};
+    static uint8_t sheet[SHEET_MOST_BYTES];
+    check_group("units of sheets of one kind, width %" PRIu32, width);
+    for (unsigned code = 1; code <= 8; code++) {
+        size_t len = fill_with(width, (uint8_t)code, sheet);
+        for (size_t count = SHEET_MOST_BYTES / len + 1; count-- > 0; count -= count / 8)
+            check_answers(width, sheet, count * len, count * units[code]);
+    }
 }
 
 struct list {
@@ -341,6 +400,7 @@ int main(int argc, char **argv)
         compare_full(widths[i]);
         compare_cut_commands(widths[i]);
         compare_places(widths[i]);
+        check_units(widths[i]);
     }
     compare_refusal_order();
     check_points();

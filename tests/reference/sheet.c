@@ -50,7 +50,7 @@ static uint64_t check_command(uint32_t width, const uint8_t *sheet, size_t sheet
     return command_len(width, code);
 }
 
-/* The number of commands, with their offsets, or the first refusal. */
+/* The first refusal; or 0, with the offsets of the commands. */
 static uint64_t check_run(uint32_t width, size_t vectors_len, const uint8_t *sheet,
                           size_t sheet_len, struct offsets *offsets)
 {
@@ -68,7 +68,7 @@ static uint64_t check_run(uint32_t width, size_t vectors_len, const uint8_t *she
         offsets->at[offsets->count++] = at;
         at += (size_t)len;
     }
-    return offsets->count;
+    return 0;
 }
 
 /* The command that undoes one, at the same places and with the same K. */
@@ -93,14 +93,11 @@ static uint64_t run(enum direction direction, uint32_t width, uint8_t *vectors,
                     size_t vectors_len, const uint8_t *sheet, size_t sheet_len)
 {
     struct offsets offsets;
-    uint64_t answer = check_run(width, vectors_len, sheet, sheet_len, &offsets);
-    if (is_refusal(answer))
-        return answer;
-    if (width == 32)
-        run_32(direction, vectors, sheet, &offsets);
-    else
-        run_64(direction, vectors, sheet, &offsets);
-    return answer;
+    uint64_t refusal = check_run(width, vectors_len, sheet, sheet_len, &offsets);
+    if (is_refusal(refusal))
+        return refusal;
+    return width == 32 ? run_32(direction, vectors, sheet, &offsets)
+                       : run_64(direction, vectors, sheet, &offsets);
 }
 
 uint64_t reference_run_forward(uint32_t width, uint8_t *vectors, size_t vectors_len,

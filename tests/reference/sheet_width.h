@@ -1,5 +1,8 @@
 /*
  * Included by sheet.c, once with WIDTH 32 and once with WIDTH 64.
+ *
+ * A unit of work is one product or one division (document 02, Paper 3). Units are counted
+ * where these are done: a function that does a command returns how many it did.
  */
 
 static void AT_WIDTH(swap_vectors)(WORD a[8], WORD b[8])
@@ -19,35 +22,34 @@ static void AT_WIDTH(flip)(WORD v[8])
 }
 
 /* The commands of two places; d and s differ. */
-static void AT_WIDTH(do_two_places)(enum code code, WORD d[8], WORD s[8])
+static unsigned AT_WIDTH(do_two_places)(enum code code, WORD d[8], WORD s[8])
 {
     switch (code) {
-    case LMUL: AT_WIDTH(multiply)(s, d, d); break;
-    case RMUL: AT_WIDTH(multiply)(d, s, d); break;
-    case LDIV: AT_WIDTH(reference_divide_left)(s, d, d); break;
-    case RDIV: AT_WIDTH(reference_divide_right)(d, s, d); break;
-    default: AT_WIDTH(swap_vectors)(d, s);
+    case LMUL: AT_WIDTH(multiply)(s, d, d); return 1;
+    case RMUL: AT_WIDTH(multiply)(d, s, d); return 1;
+    case LDIV: AT_WIDTH(reference_divide_left)(s, d, d); return 1;
+    case RDIV: AT_WIDTH(reference_divide_right)(d, s, d); return 1;
+    default: AT_WIDTH(swap_vectors)(d, s); return 0;
     }
 }
 
 /* Does what code says with the places, and K, of the command at these bytes. */
-static void AT_WIDTH(do_command)(enum code code, WORD vectors[PLACES][8],
-                                 const uint8_t *command)
+static unsigned AT_WIDTH(do_command)(enum code code, WORD vectors[PLACES][8],
+                                     const uint8_t *command)
 {
     WORD *d = vectors[command[1]], k[8];
-    if (has_two_places((uint8_t)code)) {
-        AT_WIDTH(do_two_places)(code, d, vectors[command[2]]);
-        return;
-    }
+    if (has_two_places((uint8_t)code))
+        return AT_WIDTH(do_two_places)(code, d, vectors[command[2]]);
     if (code == FLIP) {
         AT_WIDTH(flip)(d);
-        return;
+        return 0;
     }
     AT_WIDTH(load_vector)(command + 2, k);
     if (code == KMUL)
         AT_WIDTH(multiply)(k, d, d);
     else
         AT_WIDTH(reference_divide_left)(k, d, d);
+    return 1;
 }
 
 static void AT_WIDTH(load_vectors)(const uint8_t *bytes, WORD vectors[PLACES][8])
@@ -62,17 +64,20 @@ static void AT_WIDTH(store_vectors)(WORD vectors[PLACES][8], uint8_t *bytes)
         AT_WIDTH(store_vector)(vectors[i], bytes + i * WIDTH);
 }
 
-/* In order, or undoing from the last command to the first. */
-static void AT_WIDTH(run)(enum direction direction, uint8_t *bytes, const uint8_t *sheet,
-                          const struct offsets *offsets)
+/* In order, or undoing from the last command to the first. Returns the units of it all. */
+static uint64_t AT_WIDTH(run)(enum direction direction, uint8_t *bytes,
+                              const uint8_t *sheet, const struct offsets *offsets)
 {
     WORD vectors[PLACES][8];
+    uint64_t units = 0;
     AT_WIDTH(load_vectors)(bytes, vectors);
     for (size_t done = 0; done < offsets->count; done++) {
         size_t number = direction == FORWARD ? done : offsets->count - 1 - done;
         const uint8_t *command = sheet + offsets->at[number];
         enum code code = (enum code)command[0];
-        AT_WIDTH(do_command)(direction == FORWARD ? code : undoing(code), vectors, command);
+        units += AT_WIDTH(do_command)(direction == FORWARD ? code : undoing(code), vectors,
+                                      command);
     }
     AT_WIDTH(store_vectors)(vectors, bytes);
+    return units;
 }

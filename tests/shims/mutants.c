@@ -27,6 +27,9 @@ enum mutant {
     run_of_2048_idles,
     run_of_600,
     run_backward_of_1365_idles,
+    run_answers_commands,
+    run_counts_swaps,
+    run_backward_counts_no_kdiv,
     run_offset_by_11_bits,
     run_refused_writes,
     run_places_refused_alike,
@@ -123,13 +126,28 @@ RUN(REAL(run_backward));
 
 typedef RUN(run_function);
 
+static size_t command_len(uint32_t width, uint8_t code)
+{
+    return code <= 5 ? 3 : code == 6 ? 2 : 2 + (size_t)width;
+}
+
 /* Where command number count begins, in a sheet that is sound. */
 static size_t offset_of(uint32_t width, const uint8_t *sheet, size_t count)
 {
     size_t at = 0;
     for (; count > 0; count--)
-        at += sheet[at] <= 5 ? 3 : sheet[at] == 6 ? 2 : 2 + (size_t)width;
+        at += command_len(width, sheet[at]);
     return at;
+}
+
+/* How many commands of a code, of any for 0, a sheet has that is sound. */
+static uint64_t count_commands(uint32_t width, const uint8_t *sheet, size_t sheet_len,
+                               uint8_t code)
+{
+    uint64_t count = 0;
+    for (size_t at = 0; at < sheet_len; at += command_len(width, sheet[at]))
+        count += code == 0 || sheet[at] == code;
+    return count;
 }
 
 /* What a run would answer, with nothing done. */
@@ -140,10 +158,23 @@ static uint64_t answer_of(run_function *real, uint32_t width, size_t vectors_len
     return real(width, unused, vectors_len, sheet, sheet_len);
 }
 
-static bool idles(bool backward, uint64_t answer)
+static bool idles(bool backward, uint64_t commands)
 {
-    return (IS(run_of_2048_idles) && answer == 2048) ||
-           (IS(run_backward_of_1365_idles) && backward && answer == 1365);
+    return (IS(run_of_2048_idles) && commands == 2048) ||
+           (IS(run_backward_of_1365_idles) && backward && commands == 1365);
+}
+
+/* What a run that is not refused answers, of a sheet with these units. */
+static uint64_t other_units(bool backward, uint32_t width, const uint8_t *sheet,
+                            size_t sheet_len, uint64_t units)
+{
+    if (IS(run_answers_commands))
+        return count_commands(width, sheet, sheet_len, 0);
+    if (IS(run_counts_swaps))
+        return units + count_commands(width, sheet, sheet_len, 5);
+    if (IS(run_backward_counts_no_kdiv) && backward)
+        return units - count_commands(width, sheet, sheet_len, 8);
+    return units;
 }
 
 static uint64_t other_refusal(uint64_t answer)
@@ -167,9 +198,11 @@ static uint64_t run(run_function *real, bool backward, uint32_t width, uint8_t *
             vectors[0] ^= 1;
         return other_refusal(answer);
     }
-    if (idles(backward, answer))
+    uint64_t commands = count_commands(width, sheet, sheet_len, 0);
+    answer = other_units(backward, width, sheet, sheet_len, answer);
+    if (idles(backward, commands))
         return answer;
-    if (IS(run_of_600) && answer > 600)
+    if (IS(run_of_600) && commands > 600)
         sheet_len = offset_of(width, sheet, 600);
     real(width, vectors, vectors_len, sheet, sheet_len);
     return answer;

@@ -1,4 +1,4 @@
-// The interpreter of load sheets: the loops that do and undo commands over lent vectors of a known width and of their length.
+// The interpreter of load sheets: the loops that do and undo commands over lent vectors, at a known width and with bytes for every vector.
 ghost use mathlib.Core.Path.{_≡_};
 ghost use mathlib.Core.Bool.{true};
 ghost use mathlib.Core.List.{reverse};
@@ -43,7 +43,7 @@ fn undo(width: u32, sheet: &[u8], at: usize, vectors: &mut [u8])
     match reader::read_command(width, sheet, at) {
         Read::Got(d) => {
             let c = d.command;
-            let back = reader::opposite(c);
+            let back = commands::opposite(c);
             effect::apply(width, sheet, back, vectors)
         }
         Read::Fault(_) => return,

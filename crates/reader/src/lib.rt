@@ -1,10 +1,8 @@
-// The code that reads one command of a load sheet with its units, and the command that undoes it.
+// The code that reads one command of a load sheet.
 ghost use mathlib.Core.Path.{_≡_};
 ghost use Prim.Native.Nat.{_<_};
-ghost use Rattle.sheet.specs.Units.{units};
 ghost use Rattle.sheet.specs.Read.{sizeOf, twoPlaceCommand, twoPlaces, onePlaceCommand, onePlace, readAt};
 ghost use Rattle.sheet.specs.Read.{got as gotOf};
-ghost use Rattle.sheet.specs.Effect.{undone};
 use answer::Refusal;
 use sheet::Command;
 use sheet::Decoded;
@@ -35,22 +33,6 @@ fn size_of(width: u32, opcode: u8) -> usize
     if opcode == 6 { 2 } else { from_u32(width) + 2 }
 }
 
-// The units of a command: one for a product or a division, none for a swap or a flip.
-fn units_of(c: Command) -> usize
-    ensures { λ r. ⌜ r ≡ units c ⌝ }
-{
-    match c {
-        Command::Lmul(_) => 1,
-        Command::Rmul(_) => 1,
-        Command::Ldiv(_) => 1,
-        Command::Rdiv(_) => 1,
-        Command::Swap(_) => 0,
-        Command::Flip(_) => 0,
-        Command::Kmul(_, _) => 1,
-        Command::Kdiv(_, _) => 1,
-    }
-}
-
 // A command that was read; `next` is the offset behind it.
 fn got(c: Command, next: usize) -> Read
     ensures { λ r. ⌜ r ≡ gotOf c next ⌝ }
@@ -58,7 +40,7 @@ fn got(c: Command, next: usize) -> Read
     Read::Got(Decoded {
         command: c,
         next: next,
-        units: units_of(c),
+        units: commands::units_of(c),
     })
 }
 
@@ -141,20 +123,4 @@ pub fn read_command(width: u32, sheet: &[u8], at: usize) -> Read
         return two_places(opcode, p, at + size);
     }
     one_place(opcode, d, j, at + size)
-}
-
-// The command that undoes a command.
-pub fn opposite(c: Command) -> Command
-    ensures { λ r. ⌜ r ≡ undone c ⌝ }
-{
-    match c {
-        Command::Lmul(p) => Command::Ldiv(p),
-        Command::Rmul(p) => Command::Rdiv(p),
-        Command::Ldiv(p) => Command::Lmul(p),
-        Command::Rdiv(p) => Command::Rmul(p),
-        Command::Swap(p) => Command::Swap(p),
-        Command::Flip(d) => Command::Flip(d),
-        Command::Kmul(d, k) => Command::Kdiv(d, k),
-        Command::Kdiv(d, k) => Command::Kmul(d, k),
-    }
 }

@@ -13,7 +13,7 @@ use Rattle.sheet.specs.declared.Summary.the-variants.{Whole, Faulty}
 use Rattle.sheet.specs.Read.{readAt}
 use Rattle.sheet.specs.Sheet as Plans
 use Rattle.sheet.specs.Sheet.{Outcome, refused, behind, scanFrom}
-use Rattle.sheet.specs.Work.{unitsIn, totalUnits, summed, summary}
+use Rattle.sheet.specs.Work.{totalUnits, summed, summary}
 use Rattle.sheet.specs.Sound.{SoundDecoded}
 use Rattle.sheet.proofs.Work.{units-none, units-more}
 use Rattle.sheet.proofs.Scan.{scan-got, scan-fault, scan-end}

@@ -1,6 +1,6 @@
 // The check of a whole load sheet, command by command.
 ghost use mathlib.Core.Path.{_≡_};
-ghost use Prim.Native.Nat.{_<_, _≤_};
+ghost use Prim.Native.Nat.{_≤_};
 ghost use lib.ListN.{length, set};
 ghost use lib.Seq.{sets};
 ghost use Rattle.sheet.specs.Sheet.{scanFrom, planOf};

@@ -1,4 +1,4 @@
--- A sheet has at most 4,096 bytes, so its faults have small offsets and its commands are few.
+-- A sheet has at most 4,096 bytes, so its faults have small offsets and its units are few.
 use mathlib.Core.Path.{_≡_, subst}
 use mathlib.Core.List.{List}
 use Prim.Native.Nat.{ℕ, zero, suc, _^_, _≤_, _<_}

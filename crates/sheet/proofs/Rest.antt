@@ -52,7 +52,7 @@ module _ (w : ℕ) (s : List ℕ) where
   pub few-commands : 2 * length (scanFrom (length s) w s 0 .offsets) ≤ length s
   few-commands = omega (arith, few (length s) 0)
 
-  -- one that counts takes three, where a K takes any
+  -- one that counts takes three, where a K takes a byte or more
   units-with : (r : Read) (i : ℕ) (F : ℕ → Plan) → readAt w s i ≡ r → SoundRead w (length s) i r → 1 ≤ w
       → ((n : ℕ) → 3 * totalUnits w s (F n .offsets) ≤ length s - n) → 3 * totalUnits w s (continue r i F .offsets) ≤ length s - i
   units-with (Got d) i F e h l k =

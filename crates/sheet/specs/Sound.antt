@@ -1,5 +1,5 @@
--- What holds of a command that was read: its places are places, and its K lies in the sheet. Of contracts, only those of functions inside the kit
--- cite this.
+-- What holds of a command that was read: its places are places, its K lies in the sheet, and it has bytes enough for its units. Of contracts, only
+-- those of functions inside the kit cite this.
 use mathlib.Core.Path.{_≡_}
 use Prim.Native.Nat.{ℕ, _+_, _*_, _≤_, _<_}
 use Rattle.sheet.specs.Read.{placeCount}

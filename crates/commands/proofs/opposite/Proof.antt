@@ -1,8 +1,8 @@
 use mathlib.Core.Path.{ap, sym}
 use borrow.Author.Needs.{needs}
 use Rattle.sheet.specs.Effect.{undone}
-use Rattle.reader.proofs.opposite.Statement.{statement}
-use Rattle.reader.proofs.opposite.Tie as tie
+use Rattle.commands.proofs.opposite.Statement.{statement}
+use Rattle.commands.proofs.opposite.Tie as tie
 
 returns : tie.Need-returns
 returns c = ap undone (sym (c .before .c .given .1))
