@@ -97,8 +97,8 @@ read-sound w s i =
     split P (ltb (length s) (i + sizeOf w b)) _ _ (λ _. m) λ g.
     let z : i + sizeOf w b ≤ length s = ltb-false (length s) (i + sizeOf w b) g in
     let t : i + 2 ≤ i + sizeOf w b = omega (arith, size-two w b) in
-    split P (ltb b 6) _ _
-    (λ l. two-sound w (length s) i m b (i + sizeOf w b) t z (omega (arith, size-three w b (ltb-true b 6 l))) (record { d = getD s (i + 1) 0; s = getD s (i + 2) 0 })) λ l.
+    let p : Places = record { d = getD s (i + 1) 0; s = getD s (i + 2) 0 } in
+    split P (ltb b 6) _ _ (λ l. two-sound w (length s) i m b (i + sizeOf w b) t z (omega (arith, size-three w b (ltb-true b 6 l))) p) λ l.
     one-sound w (length s) i m b (i + sizeOf w b) t z (getD s (i + 1) 0) (λ e. omega (arith, size-key w b (ltb-false b 6 l) e))
 
 pub got-sound : (w : ℕ) (s : List ℕ) (i : ℕ) {d : Decoded} → readAt w s i ≡ Got d → SoundDecoded w (length s) i d
