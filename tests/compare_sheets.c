@@ -23,11 +23,6 @@ enum {
 
 static const uint32_t widths[2] = {32, 64};
 
-static size_t command_len(uint32_t width, uint8_t code)
-{
-    return code <= 5 ? 3 : code == 6 ? 2 : 2 + (size_t)width;
-}
-
 /* Mostly short sheets, some of any length; never of one byte, which no command fills. */
 static size_t random_sheet_len(void)
 {

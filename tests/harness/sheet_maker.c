@@ -7,7 +7,7 @@
 
 enum { LAST_OF_TWO_PLACES = 5, FLIP = 6, LAST_CODE = 8 };
 
-static size_t command_len(uint32_t width, unsigned code)
+size_t command_len(uint32_t width, unsigned code)
 {
     if (code <= LAST_OF_TWO_PLACES)
         return 3;

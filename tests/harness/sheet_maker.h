@@ -16,6 +16,9 @@ struct sheet {
     size_t count;
 };
 
+/* The bytes that a command takes, by its code, 1 to 8. */
+size_t command_len(uint32_t width, unsigned code);
+
 /* A sheet of exactly len bytes that a run at this width accepts. No command takes one
    byte, so len is not 1; it is at most SHEET_MOST_BYTES. */
 void make_sheet(uint32_t width, size_t len, struct sheet *sheet);

@@ -49,9 +49,9 @@ fn backward_at(width: u32, vectors: &mut [u8], sheet: &[u8]) -> Answer
     }
     let mut offsets = [0u16; MOST];
     match scanner::check(width, sheet, &mut offsets) {
-        Summary::Whole(n, units) => {
+        Summary::Whole(n, undone) => {
             interpreter::backward(width, sheet, &offsets, n, vectors);
-            Answer::Done(units as u64)
+            Answer::Done(undone as u64)
         }
         Summary::Faulty(r, at) => Answer::Refused(r, at),
     }
