@@ -135,12 +135,12 @@ uint64_t edonr_digest(uint32_t size, const uint8_t *message, size_t message_len,
 
 /* ============================ C. Sheets ============================ */
 
-#define EDONR_PLACES 4 /* the number of vectors that a sheet works on: V0 to V3 */
+#define EDONR_PLACES 8 /* the number of vectors that a sheet works on: V0 to V7 */
 
 /*
- * A sheet is 0 to 4,096 bytes of commands over EDONR_PLACES vectors of one width, V0 to V3,
- * lent as EDONR_PLACES * w bytes (128 or 256), V0 first. A place is the number of a vector,
- * 0 to EDONR_PLACES - 1 (0 to 3). d and s are places, one byte each; K is a vector of w
+ * A sheet is 0 to 4,096 bytes of commands over EDONR_PLACES vectors of one width, V0 to V7,
+ * lent as EDONR_PLACES * w bytes (256 or 512), V0 first. A place is the number of a vector,
+ * 0 to EDONR_PLACES - 1 (0 to 7). d and s are places, one byte each; K is a vector of w
  * bytes. Command bytes are hexadecimal:
  *
  *   01 d s  lmul  Vd becomes Vs*Vd        05 d s  swap  Vd and Vs change over
@@ -159,7 +159,7 @@ uint64_t edonr_digest(uint32_t size, const uint8_t *message, size_t message_len,
 #define EDONR_REFUSED_SHEET 7       /* the sheet is over 4,096 bytes */
 #define EDONR_REFUSED_COMMAND 8     /* a command byte is not 01 to 08 */
 #define EDONR_REFUSED_CUT_COMMAND 9 /* the sheet ends inside a command */
-#define EDONR_REFUSED_PLACE 10      /* a place is above EDONR_PLACES - 1 (3) */
+#define EDONR_REFUSED_PLACE 10      /* a place is above EDONR_PLACES - 1 (7) */
 #define EDONR_REFUSED_SAME_PLACE 11 /* d equals s */
 
 /*
@@ -167,7 +167,7 @@ uint64_t edonr_digest(uint32_t size, const uint8_t *message, size_t message_len,
  *
  * Reads    vectors, EDONR_PLACES * w bytes, and sheet, sheet_len bytes; an empty sheet is
  *          fine.
- * Writes   on success vectors, all EDONR_PLACES * w bytes: V0 to V3 after the last command.
+ * Writes   on success vectors, all EDONR_PLACES * w bytes: V0 to V7 after the last command.
  * Returns  the units of the commands done, 0 to 1,365.
  * Refuses  in this order:
  *          5 EDONR_REFUSED_WIDTH   width is neither 32 nor 64;
@@ -177,7 +177,7 @@ uint64_t edonr_digest(uint32_t size, const uint8_t *message, size_t message_len,
  *          within that command the first of
  *          8 EDONR_REFUSED_COMMAND      the command byte is not 01 to 08;
  *          9 EDONR_REFUSED_CUT_COMMAND  the sheet ends inside the command;
- *         10 EDONR_REFUSED_PLACE        a place is above EDONR_PLACES - 1 (3);
+ *         10 EDONR_REFUSED_PLACE        a place is above EDONR_PLACES - 1 (7);
  *         11 EDONR_REFUSED_SAME_PLACE   d equals s.
  */
 uint64_t edonr_run_forward(uint32_t width, uint8_t *vectors, size_t vectors_len,
@@ -191,7 +191,7 @@ uint64_t edonr_run_forward(uint32_t width, uint8_t *vectors, size_t vectors_len,
  *
  * Reads    vectors, EDONR_PLACES * w bytes, and sheet, sheet_len bytes; an empty sheet is
  *          fine.
- * Writes   on success vectors, all EDONR_PLACES * w bytes: V0 to V3 after the first command
+ * Writes   on success vectors, all EDONR_PLACES * w bytes: V0 to V7 after the first command
  *          is undone.
  * Returns  the units of the commands undone, 0 to 1,365: what a forward run of the sheet
  *          returns.

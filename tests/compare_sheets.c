@@ -154,6 +154,7 @@ static void compare_refusal_order(void)
                                          1,
                                          32,
                                          64,
+                                         VECTORS_32 / 2,
                                          VECTORS_32 - 1,
                                          VECTORS_32,
                                          VECTORS_32 + 1,
@@ -162,9 +163,10 @@ static void compare_refusal_order(void)
                                          VECTORS_64 + 1,
                                          2 * VECTORS_64,
                                          RUN_CALL_VECTORS};
-    static const size_t sheet_lens[] = {0, 1, 2, 3, 4, 5, 6, 34, 66, 4096, 4097, 8192};
+    static const size_t sheet_lens[] = {0,  1,  2,  3,    4,    5,   6,
+                                        34, 66, 67, 4096, 4097, 8192};
     static const uint8_t codes[] = {0, 1, 5, 6, 7, 9};
-    enum { N = 12 };
+    enum { N = 13 };
     static uint8_t sheet[RUN_CALL_SHEET];
     check_group("refusals in every combination");
     for (unsigned c = 0; c < sizeof codes; c++) {
@@ -208,8 +210,19 @@ static const struct point points[] = {
     {"kdiv, wide", 64, VECTORS_64, 66, {8, 0}, 1},
     {"two flips", 32, VECTORS_32, 4, {6, 0, 6, EDONR_PLACES - 1}, 0},
     {"d = s", 32, VECTORS_32, 3, {5, 1, 1}, REFUSED(11, 0)},
-    {"place and d = s", 32, VECTORS_32, 3, {1, EDONR_PLACES, EDONR_PLACES}, REFUSED(10, 0)},
-    {"place, cut", 32, VECTORS_32, 2, {1, EDONR_PLACES}, REFUSED(9, 0)},
+    {"d = s = 4", 32, VECTORS_32, 3, {1, 4, 4}, REFUSED(11, 0)},
+    {"d = s = 4, wide", 64, VECTORS_64, 3, {1, 4, 4}, REFUSED(11, 0)},
+    {"place 4", 32, VECTORS_32, 2, {6, 4}, 0},
+    {"place 4, wide", 64, VECTORS_64, 2, {6, 4}, 0},
+    {"places 7 and 4", 32, VECTORS_32, 3, {2, 7, 4}, 1},
+    {"place 8", 32, VECTORS_32, 2, {6, 8}, REFUSED(10, 0)},
+    {"place 8, wide", 64, VECTORS_64, 2, {6, 8}, REFUSED(10, 0)},
+    {"d = s = 8", 32, VECTORS_32, 3, {1, 8, 8}, REFUSED(10, 0)},
+    {"d = s = 8, wide", 64, VECTORS_64, 3, {1, 8, 8}, REFUSED(10, 0)},
+    {"s = 8", 32, VECTORS_32, 3, {1, 7, 8}, REFUSED(10, 0)},
+    {"place 8 after a flip", 64, VECTORS_64, 4, {6, 7, 6, 8}, REFUSED(10, 2)},
+    {"place 4, cut", 32, VECTORS_32, 2, {1, 4}, REFUSED(9, 0)},
+    {"place 8, cut", 32, VECTORS_32, 2, {1, 8}, REFUSED(9, 0)},
     {"command byte after a flip", 32, VECTORS_32, 3, {6, 0, 9}, REFUSED(8, 2)},
     {"command byte 0", 64, VECTORS_64, 1, {0}, REFUSED(8, 0)},
     {"K of 31 bytes", 32, VECTORS_32, 33, {7, 0}, REFUSED(9, 0)},
@@ -218,6 +231,8 @@ static const struct point points[] = {
     {"4,097 bytes, faulty at 0", 32, VECTORS_32, 4097, {9}, REFUSED(7, 0)},
     {"4,097 bytes", 64, VECTORS_64, 4097, {6}, REFUSED(7, 0)},
     {"lengths and sheet", 32, VECTORS_64, 4097, {9}, REFUSED(6, 0)},
+    {"four vectors", 32, 4 * 32, 2, {6, 0}, REFUSED(6, 0)},
+    {"four vectors, wide", 64, 4 * 64, 2, {6, 0}, REFUSED(6, 0)},
     {"the other width's length", 64, VECTORS_32, 0, {0}, REFUSED(6, 0)},
     {"a length of 2^32 more", 32, OVER_32 + VECTORS_32, 2, {6, 0}, REFUSED(6, 0)},
     {"a sheet of 2^32 bytes more", 32, VECTORS_32, OVER_32 + 2, {6, 0}, REFUSED(7, 0)},

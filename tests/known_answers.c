@@ -1,7 +1,7 @@
 /*
  * The probe's table of known answers against the reference: every entry is worked out
- * again, so that nobody has to believe its bytes. And that its vectors are what the table
- * says of them.
+ * again, so that nobody has to believe its bytes. And that its vectors and its sheets are
+ * what the table says of them.
  */
 #include <inttypes.h>
 #include <stdio.h>
@@ -10,6 +10,7 @@
 #include "../probe/known_table.h"
 #include "harness/check.h"
 #include "harness/rng.h"
+#include "harness/sheet_maker.h"
 #include "reference/digest.h"
 #include "reference/division.h"
 #include "reference/product.h"
@@ -112,14 +113,33 @@ static void check_vectors(const struct known *known)
               "%s: highest bits from byte %zu on", known->name, at);
 }
 
+/* Every kind of command, and no vector left alone. */
+static void check_sheet(const struct known *known)
+{
+    struct known_bytes before = known_bytes(known->first);
+    struct known_bytes sheet = known_bytes(known->second);
+    struct known_bytes after = known_bytes(known->result);
+    size_t width = known->parameter;
+    unsigned kinds = 0;
+    for (size_t at = 0; at < sheet.len; at += command_len(known->parameter, sheet.at[at]))
+        kinds |= 1u << sheet.at[at];
+    check(kinds == 0x1FE, "%s: kinds %x", known->name, kinds);
+    for (size_t at = 0; at < before.len; at += width)
+        check(memcmp(before.at + at, after.at + at, width) != 0,
+              "%s: the vector at byte %zu is left alone", known->name, at);
+}
+
 int main(int argc, char **argv)
 {
     check_program("known_answers", argc, argv);
     reference_init();
     check_table();
-    check_group("the vectors of its runs");
-    for (unsigned i = 0; i < KNOWN_ANSWERS; i++)
-        if (known_table[i].call == KNOWN_FORWARD)
+    check_group("the vectors and sheets of its runs");
+    for (unsigned i = 0; i < KNOWN_ANSWERS; i++) {
+        if (known_table[i].call == KNOWN_FORWARD) {
             check_vectors(&known_table[i]);
+            check_sheet(&known_table[i]);
+        }
+    }
     return check_finish();
 }

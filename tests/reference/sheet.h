@@ -14,4 +14,11 @@ uint64_t reference_run_forward(uint32_t width, uint8_t *vectors, size_t vectors_
 uint64_t reference_run_backward(uint32_t width, uint8_t *vectors, size_t vectors_len,
                                 const uint8_t *sheet, size_t sheet_len);
 
+/* The same as it was when a sheet worked on four vectors, V0 to V3, lent as 4 * w bytes. */
+uint64_t reference_former_forward(uint32_t width, uint8_t *vectors, size_t vectors_len,
+                                  const uint8_t *sheet, size_t sheet_len);
+
+uint64_t reference_former_backward(uint32_t width, uint8_t *vectors, size_t vectors_len,
+                                   const uint8_t *sheet, size_t sheet_len);
+
 #endif

@@ -33,6 +33,10 @@ enum mutant {
     run_offset_by_11_bits,
     run_refused_writes,
     run_places_refused_alike,
+    run_high_places_refused,
+    run_equal_places_first,
+    run_takes_four_vectors,
+    run_leaves_high_places,
     sheet_length_by_32_bits,
     open_refused_writes,
     open_keeps_waiting,
@@ -177,14 +181,31 @@ static uint64_t other_units(bool backward, uint32_t width, const uint8_t *sheet,
     return units;
 }
 
-static uint64_t other_refusal(uint64_t answer)
+static uint64_t other_refusal(uint64_t answer, uint32_t width, size_t vectors_len,
+                              const uint8_t *sheet)
 {
     uint32_t refusal = edonr_refusal(answer), offset = edonr_offset(answer);
+    if (IS(run_takes_four_vectors) && refusal == EDONR_REFUSED_LENGTH &&
+        vectors_len == 4 * (size_t)width)
+        return 0;
     if (IS(run_offset_by_11_bits))
         offset &= 0x7FF;
     if (IS(run_places_refused_alike) && refusal == EDONR_REFUSED_SAME_PLACE)
         refusal = EDONR_REFUSED_PLACE;
+    if (IS(run_equal_places_first) && refusal == EDONR_REFUSED_PLACE &&
+        sheet[offset] <= 5 && sheet[offset + 1] == sheet[offset + 2])
+        refusal = EDONR_REFUSED_SAME_PLACE;
     return edonr_refused(refusal, offset);
+}
+
+/* Where the first command with a place above 3 begins, in a sheet that is sound; its length
+   where there is none. */
+static size_t first_high_place(uint32_t width, const uint8_t *sheet, size_t sheet_len)
+{
+    size_t at = 0;
+    while (at < sheet_len && sheet[at + 1] <= 3 && (sheet[at] > 5 || sheet[at + 2] <= 3))
+        at += command_len(width, sheet[at]);
+    return at;
 }
 
 static uint64_t run(run_function *real, bool backward, uint32_t width, uint8_t *vectors,
@@ -196,15 +217,22 @@ static uint64_t run(run_function *real, bool backward, uint32_t width, uint8_t *
     if (!succeeds(answer)) {
         if (IS(run_refused_writes) && edonr_offset(answer) > 0)
             vectors[0] ^= 1;
-        return other_refusal(answer);
+        return other_refusal(answer, width, vectors_len, sheet);
     }
+    size_t high = first_high_place(width, sheet, sheet_len);
+    if (IS(run_high_places_refused) && high < sheet_len)
+        return edonr_refused(EDONR_REFUSED_PLACE, (uint32_t)high);
     uint64_t commands = count_commands(width, sheet, sheet_len, 0);
     answer = other_units(backward, width, sheet, sheet_len, answer);
     if (idles(backward, commands))
         return answer;
     if (IS(run_of_600) && commands > 600)
         sheet_len = offset_of(width, sheet, 600);
+    uint8_t kept[EDONR_PLACES * 64];
+    memcpy(kept, vectors, vectors_len);
     real(width, vectors, vectors_len, sheet, sheet_len);
+    if (IS(run_leaves_high_places))
+        memcpy(vectors + vectors_len / 2, kept + vectors_len / 2, vectors_len / 2);
     return answer;
 }
 

@@ -1,11 +1,32 @@
 -- A list of invertible steps is undone by the list backwards.
-use mathlib.Core.Path.{_≡_, refl, sym, ap, ap₂, _∙_}
+use mathlib.Core.Path.{_≡_, refl, sym, ap, ap₂, subst, _∙_}
 use mathlib.Core.List.{List, [], _∷_, _++_, map, reverse, reverse-cons}
 use Rattle.invertible.specs.Invertible.{stepped, outputs, Each, none, more, Invertible}
 
 pub each : {A : Type 0} {P : A → Type 0} → ((a : A) → P a) → (l : List A) → Each P l
 each h [] = none
 each h (a ∷ l) = more (h a) (each h l)
+
+pub each-map : {A : Type 0} {P Q : A → Type 0} {l : List A} → ((a : A) → P a → Q a) → Each P l → Each Q l
+each-map h none = none
+each-map h (more {a} p k) = more (h a p) (each-map h k)
+
+each-snoc : {A : Type 0} {P : A → Type 0} {l : List A} → Each P l → (a : A) → P a → Each P (l ++ (a ∷ []))
+each-snoc none a p = more p none
+each-snoc (more q k) a p = more q (each-snoc k a p)
+
+pub each-reverse : {A : Type 0} {P : A → Type 0} {l : List A} → Each P l → Each P (reverse l)
+each-reverse none = none
+each-reverse {P = P} (more {a} {l} p k) = subst (Each P) (sym (reverse-cons a l)) (each-snoc (each-reverse k) a p)
+
+-- what is the same of each element
+pub map-same : {A B : Type 0} {f h : A → B} {l : List A} → Each (λ a. f a ≡ h a) l → map f l ≡ map h l
+map-same none = refl
+map-same {B = B} (more e k) = ap₂ {C = List B} (λ x y. x ∷ y) e (map-same k)
+
+pub stepped-same : {A S : Type 0} {f h : A → S → S} {l : List A} → Each (λ a. (s : S) → f a s ≡ h a s) l → (s : S) → stepped f l s ≡ stepped h l s
+stepped-same none s = refl
+stepped-same {f = f} {h} (more {a} {l} e k) s = ap (stepped f l) (e s) ∙ stepped-same k (h a s)
 
 module _ {A S : Type 0} (f : A → S → S) where
   pub stepped-snoc : (l : List A) (a : A) (s : S) → stepped f (l ++ (a ∷ [])) s ≡ f a (stepped f l s)

@@ -9,17 +9,17 @@ use Rattle.memory.specs.Bytes.{wordAt, bytesOf}
 use Rattle.word.specs.Word.{rotl}
 use Rattle.digest.specs.Padding.{padded}
 use Rattle.digest.specs.Kind.{narrowKind, wideKind}
-use Rattle.sheet.specs.Read.{readAt}
-use Rattle.sheet.specs.Sheet.{planOf}
-use Rattle.sheet.specs.SheetAnswer.{sheetAnswer}
+use Rattle.sheet.specs.Read.{readAmong}
+use Rattle.sheet.specs.Sheet.{planAmong}
+use Rattle.sheet.specs.SheetAnswer.{sheetAnswerAmong}
 use Rattle.sheet.specs.Run.{Forward, runAnswer, runBytes}
 
 abbrev oneToEight : List ℕ
 oneToEight = 1 ∷ 2 ∷ 3 ∷ 4 ∷ 5 ∷ 6 ∷ 7 ∷ 8 ∷ []
 
--- the four vectors of width w in lent bytes: V0 given, the others zero
+-- the eight vectors of width w in lent bytes: V0 given, the others zero
 abbrev lent : ℕ → List ℕ → List ℕ
-lent w v = bytesOf (w / 8) (v ++ replicate 24 0)
+lent w v = bytesOf (w / 8) (v ++ replicate 56 0)
 
 -- of sheets, at width w. A refusal is said by document 01's number: 2^32 times the refusal number plus the offset.
 pub record SheetPoints (w : ℕ) : Type 0 where
@@ -29,8 +29,11 @@ pub record SheetPoints (w : ℕ) : Type 0 where
   pub flip : runBytes Forward w (6 ∷ 0 ∷ []) (lent w oneToEight) ≡ lent w (8 ∷ 7 ∷ 6 ∷ 5 ∷ 4 ∷ 3 ∷ 2 ∷ 1 ∷ [])
   -- 05 01 01 is 11 at 0
   pub same-place : numberOf (runAnswer w (5 ∷ 1 ∷ 1 ∷ []) (lent w oneToEight)) ≡ 11 * 2 ^ 32 + 0
-  -- 01 04 04 is 10 at 0
-  pub place : numberOf (runAnswer w (1 ∷ 4 ∷ 4 ∷ []) (lent w oneToEight)) ≡ 10 * 2 ^ 32 + 0
+  -- document 02, Paper 8: 01 04 04 is 11 at 0; 06 04 is accepted; 06 08 and 01 08 08 are 10 at 0
+  pub same-high-place : numberOf (runAnswer w (1 ∷ 4 ∷ 4 ∷ []) (lent w oneToEight)) ≡ 11 * 2 ^ 32 + 0
+  pub high-place : runAnswer w (6 ∷ 4 ∷ []) (lent w oneToEight) ≡ Done 0
+  pub no-place : numberOf (runAnswer w (6 ∷ 8 ∷ []) (lent w oneToEight)) ≡ 10 * 2 ^ 32 + 0
+  pub no-places : numberOf (runAnswer w (1 ∷ 8 ∷ 8 ∷ []) (lent w oneToEight)) ≡ 10 * 2 ^ 32 + 0
   -- 01 04 is 9 at 0
   pub truncated : numberOf (runAnswer w (1 ∷ 4 ∷ []) (lent w oneToEight)) ≡ 9 * 2 ^ 32 + 0
   -- 06 00 09 is 8 at 2, V0 unflipped
@@ -57,7 +60,7 @@ pub record Points : Type 0 where
   pub sheets-64 : SheetPoints 64
 
 pub points : Points
-unfolding rotl sheetAnswer planOf readAt sum
+unfolding rotl sheetAnswerAmong planAmong readAmong sum
 points =
     record {
       word = refl;
@@ -73,7 +76,10 @@ points =
             empty = refl;
             flip = refl;
             same-place = refl;
-            place = refl;
+            same-high-place = refl;
+            high-place = refl;
+            no-place = refl;
+            no-places = refl;
             truncated = refl;
             opcode = refl;
             unflipped = refl;
@@ -83,7 +89,10 @@ points =
             empty = refl;
             flip = refl;
             same-place = refl;
-            place = refl;
+            same-high-place = refl;
+            high-place = refl;
+            no-place = refl;
+            no-places = refl;
             truncated = refl;
             opcode = refl;
             unflipped = refl;

@@ -1,5 +1,5 @@
 -- The units that reading tells, and those that a run answers.
-use mathlib.Core.Path.{_≡_, refl, sym, ap, ap₂, subst, _∙_}
+use mathlib.Core.Path.{_≡_, refl, sym, ap, subst, _∙_}
 use mathlib.Core.Bool.{true, false, _||_}
 use mathlib.Core.List.{List, [], _∷_, _++_, map, map-append, sum, sum-reverse, reverse, reverse-cons}
 use Prim.Native.Nat.{ℕ, _+_, _≤_}
@@ -11,6 +11,7 @@ use lib.ListN.{length, getD}
 use Rattle.answer.specs.declared.Answer.{Answer}
 use Rattle.answer.specs.declared.Answer.the-variants.{Done}
 use Rattle.answer.proofs.Tests.{split, neither}
+use Rattle.invertible.proofs.Invertible.{each, map-same}
 use Rattle.quasigroup.specs.Tables.{knownWidth}
 use Rattle.quasigroup.proofs.Widths.{of-known}
 use Rattle.sheet.specs.declared.Places.{Places}
@@ -19,7 +20,7 @@ use Rattle.sheet.specs.declared.Command.the-variants.{Lmul, Rmul, Ldiv, 
 use Rattle.sheet.specs.declared.Read.{Read}
 use Rattle.sheet.specs.declared.Read.the-variants.{Got, Fault, End}
 use Rattle.sheet.specs.Units.{units}
-use Rattle.sheet.specs.Read.{placeCount, sizeOf, got, twoPlaces, onePlace, readAt}
+use Rattle.sheet.specs.Read.{placeCount, sizeOf, got, twoPlaces, onePlace, readAmong, readAt}
 use Rattle.sheet.specs.Sheet.{Sound, planOf}
 use Rattle.sheet.specs.Work.{unitsIn, unitsAt, totalUnits}
 use Rattle.sheet.specs.Run.{Direction, Forward, Backward}
@@ -70,7 +71,7 @@ module _ (b n : ℕ) where
       split P (eqb b 7) _ _ (λ _. counts (Kmul d k) refl h (eqb-false b 6 e)) (λ _. counts (Kdiv d k) refl h (eqb-false b 6 e))
 
 told : (w : ℕ) (s : List ℕ) (i : ℕ) → Told (getD s i 0) (readAt w s i)
-unfolding readAt
+unfolding readAmong
 told w s i =
     let b = getD s i 0 in
     split (Told b) (leb (length s) i) _ _ (λ _. tt) λ _.
@@ -103,10 +104,6 @@ done-with g b End h = refl
 
 -- ---- runs
 
-map-same : {f h : ℕ → ℕ} → ((i : ℕ) → f i ≡ h i) → (l : List ℕ) → map f l ≡ map h l
-map-same e [] = refl
-map-same e (i ∷ l) = ap₂ {C = List ℕ} (λ x y. x ∷ y) (e i) (map-same e l)
-
 map-reverse : (f : ℕ → ℕ) (l : List ℕ) → map f (reverse l) ≡ reverse (map f l)
 map-reverse f [] = refl
 map-reverse f (i ∷ l) =
@@ -119,19 +116,19 @@ module _ (w : ℕ) (s : List ℕ) where
 
   -- a run in either direction does what the check of its sheet counts
   either-run : (g : Direction) → totalUnits w s (planOf w s .offsets) ≡ runUnits g w s
-  either-run Forward = ap (sum _+_ 0) (sym (map-same (done-at Forward) (planOf w s .offsets)))
+  either-run Forward = ap (sum _+_ 0) (sym (map-same (each (done-at Forward) (planOf w s .offsets))))
   either-run Backward =
       let l = planOf w s .offsets in
       sym (sum-reverse _+_ 0 zero-add add-assoc add-comm (map (unitsAt w s) l))
       ∙ ap (sum _+_ 0) (sym (map-reverse (unitsAt w s) l))
-      ∙ ap (sum _+_ 0) (sym (map-same (done-at Backward) (reverse l)))
+      ∙ ap (sum _+_ 0) (sym (map-same (each (done-at Backward) (reverse l))))
 
   pub few-run : knownWidth w ≡ true → planOf w s .outcome ≡ Sound → totalUnits w s (planOf w s .offsets) ≤ 1365
   few-run k e = sound-units w s e (of-known (λ w. 1 ≤ w) (omega arith) (omega arith) w k)
 
 pub runs-count : RunsCount
 runs-count g w s b n =
-    by-tests w _ s _ (λ (a : Answer). a ≡ Done n → RunUnits g w s n)
+    by-tests placeCount w _ s _ (λ (a : Answer). a ≡ Done n → RunUnits g w s n)
     (λ _ e. let z : _≡_ {A = ℕ} 0 1 = cc in absurd (omega arith))
     (λ _ e. let z : _≡_ {A = ℕ} 0 1 = cc in absurd (omega arith))
     (λ r i _ e. let z : _≡_ {A = ℕ} 0 1 = cc in absurd (omega arith))

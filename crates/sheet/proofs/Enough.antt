@@ -6,7 +6,7 @@ use native.Mathlib.Omega.{arith}
 use lib.ListN.{length}
 use Rattle.sheet.specs.declared.Read.{Read}
 use Rattle.sheet.specs.declared.Read.the-variants.{Got, Fault, End}
-use Rattle.sheet.specs.Read.{readAt}
+use Rattle.sheet.specs.Read.{placeCount, readAt}
 use Rattle.sheet.specs.Sheet.{Plan, behind, continue, scanFrom}
 use Rattle.sheet.specs.Enough.{PlanFrom, at-command, at-fault, at-end, StepsEnough}
 use Rattle.sheet.specs.Sound.{SoundRead}
@@ -15,7 +15,7 @@ use Rattle.sheet.proofs.Scan.{read-end, scan-end}
 use Rattle.sheet.proofs.Rest.{enough, rest-got, rest-fault}
 
 module _ (w : ℕ) (s : List ℕ) where
-  plan-with : (f i : ℕ) (r : Read) → readAt w s i ≡ r → SoundRead w (length s) i r → length s - i ≤ suc f
+  plan-with : (f i : ℕ) (r : Read) → readAt w s i ≡ r → SoundRead placeCount w (length s) i r → length s - i ≤ suc f
       → ((n : ℕ) → length s - n ≤ f → PlanFrom w s n (scanFrom f w s n)) → PlanFrom w s i (continue r i (scanFrom f w s))
   plan-with f i (Got d) e h l k = at-command e (k (d .next) (omega (arith, h .on)))
   plan-with f i (Fault r) e h l k = at-fault e
@@ -23,7 +23,7 @@ module _ (w : ℕ) (s : List ℕ) where
 
   plan-from : (f i : ℕ) → length s - i ≤ f → PlanFrom w s i (scanFrom f w s i)
   plan-from zero i h = at-end (read-end w s i (omega arith))
-  plan-from (suc f) i h = plan-with f i (readAt w s i) refl (read-sound w s i) h (plan-from f)
+  plan-from (suc f) i h = plan-with f i (readAt w s i) refl (read-sound placeCount w s i) h (plan-from f)
 
   only-plan : {i : ℕ} {p : Plan} → PlanFrom w s i p → p ≡ scanFrom (length s) w s i
   only-plan (at-command {i} {d} e h) = ap (behind i) (only-plan h) ∙ sym (rest-got w s i d e)

@@ -10,8 +10,8 @@ use Rattle.answer.specs.declared.Refusal.{Refusal}
 use Rattle.answer.specs.Injective.{Fits}
 use Rattle.sheet.specs.declared.Read.{Read}
 use Rattle.sheet.specs.declared.Read.the-variants.{Got, Fault, End}
-use Rattle.sheet.specs.Read.{readAt}
-use Rattle.sheet.specs.Sheet.{Outcome, Sound, Faulty, Plan, continue, scanFrom, planOf}
+use Rattle.sheet.specs.Read.{placeCount, readAt}
+use Rattle.sheet.specs.Sheet.{Outcome, Sound, Faulty, Plan, continue, scanFrom, planAmong, planOf}
 use Rattle.sheet.specs.Sound.{SoundRead}
 use Rattle.sheet.specs.Fitting.{RunFits}
 use Rattle.answer.proofs.Tests.{split}
@@ -29,7 +29,7 @@ below Sound h k = tt
 below (Faulty r i) h k = omega arith
 
 module _ (w : ℕ) (s : List ℕ) where
-  inside-with : (r : Read) (i : ℕ) (F : ℕ → Plan) → SoundRead w (length s) i r → ((n : ℕ) → Inside (length s) (F n .outcome))
+  inside-with : (r : Read) (i : ℕ) (F : ℕ → Plan) → SoundRead placeCount w (length s) i r → ((n : ℕ) → Inside (length s) (F n .outcome))
       → Inside (length s) (continue r i F .outcome)
   inside-with (Got d) i F h k = k (d .next)
   inside-with (Fault r) i F h k = h
@@ -37,10 +37,10 @@ module _ (w : ℕ) (s : List ℕ) where
 
   inside : (f i : ℕ) → Inside (length s) (scanFrom f w s i .outcome)
   inside zero i = tt
-  inside (suc f) i = inside-with (readAt w s i) i (scanFrom f w s) (read-sound w s i) (inside f)
+  inside (suc f) i = inside-with (readAt w s i) i (scanFrom f w s) (read-sound placeCount w s i) (inside f)
 
   plan-inside : Inside (2 ^ 32) (planOf w s .outcome)
-  unfolding planOf
+  unfolding planAmong
   plan-inside =
       split (λ (p : Plan). Inside (2 ^ 32) (p .outcome)) (ltb 4096 (length s)) _ _ (λ _. omega arith) λ h.
       below (scanFrom (length s) w s 0 .outcome) (ltb-false 4096 (length s) h) (inside (length s) 0)
@@ -50,5 +50,5 @@ module _ (w : ℕ) (s : List ℕ) where
 
 pub run-fits : RunFits
 run-fits w s b =
-    by-tests w _ s _ (Fits (2 ^ 32)) (λ _. omega arith) (λ _. omega arith) (fault-fits w s)
+    by-tests placeCount w _ s _ (Fits (2 ^ 32)) (λ _. omega arith) (λ _. omega arith) (fault-fits w s)
     (λ p. omega (arith, few-run w s (p .width) (p .sheet)))

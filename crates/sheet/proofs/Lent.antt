@@ -16,10 +16,10 @@ use Rattle.sheet.specs.Read.{placeCount}
 use Rattle.sheet.specs.Effect.{at, vectorAt}
 use Rattle.sheet.specs.Run.{vectorsFrom, vectorBytes}
 
--- every vector is one
-pub record State (w : ℕ) (v : List (List ℕ)) : Type 0 where
-  pub size : length v ≡ placeCount
-  pub each : (i : ℕ) → i < placeCount → Vector w (at v i)
+-- there are n vectors, and every one is one
+pub record State (n w : ℕ) (v : List (List ℕ)) : Type 0 where
+  pub size : length v ≡ n
+  pub each : (i : ℕ) → i < n → Vector w (at v i)
 
 -- ---- a list of vectors
 
@@ -27,11 +27,11 @@ set-each : (w : ℕ) (v : List (List ℕ)) (d : ℕ) (x : List ℕ) (i : ℕ) �
 set-each w v d x i l hx hv (yes e) = rw (e, getD-set-same v d x [] l) hx
 set-each w v d x i l hx hv (no n) = rw (getD-set-other v d i x [] n) hv
 
-pub in-range : {w : ℕ} {v : List (List ℕ)} {d : ℕ} → State w v → d < placeCount → d < length v
+pub in-range : {n w : ℕ} {v : List (List ℕ)} {d : ℕ} → State n w v → d < n → d < length v
 in-range st h = rw (st .size) h
 
-pub set-state : {w : ℕ} {v : List (List ℕ)} → State w v → (d : ℕ) (x : List ℕ) → d < placeCount → Vector w x → State w (set v d x)
-set-state {w} {v} st d x h hx =
+pub set-state : {n w : ℕ} {v : List (List ℕ)} → State n w v → (d : ℕ) (x : List ℕ) → d < n → Vector w x → State n w (set v d x)
+set-state {w = w} {v = v} st d x h hx =
     record { size = length-set v d x ∙ st .size; each = λ i l. set-each w v d x i (in-range st h) hx (st .each i l) (ℕ-discrete i d) }
 
 -- the vector at place i of those that stand from offset o on
@@ -67,18 +67,18 @@ module _ (w : ℕ) (hw : Bytewise w) where
       (ap (λ (t : List ℕ). vectorsFrom w (length v) t (i + w)) (sym (append-assoc p (bytesOf k x) (vectorBytes w v)))
       ∙ vectors-bytes-at v (λ j m. h (suc j) (suc-le-suc m)) (p ++ bytesOf k x) (i + w) l)
 
-  each-of : {v : List (List ℕ)} → State w v → (i : ℕ) → i < length v → Vector w (at v i)
+  each-of : {n : ℕ} {v : List (List ℕ)} → State n w v → (i : ℕ) → i < length v → Vector w (at v i)
   each-of st i h = st .each i (rw (st .size) at h)
 
-  pub vectors-bytes : (v : List (List ℕ)) → State w v → vectorsFrom w placeCount (vectorBytes w v) 0 ≡ v
+  pub vectors-bytes : {n : ℕ} (v : List (List ℕ)) → State n w v → vectorsFrom w n (vectorBytes w v) 0 ≡ v
   vectors-bytes v st = subst (λ (n : ℕ). vectorsFrom w n (vectorBytes w v) 0 ≡ v) (st .size) (vectors-bytes-at v (each-of st) [] 0 refl)
 
-  pub state-length : (v : List (List ℕ)) → State w v → length (vectorBytes w v) ≡ placeCount * w
+  pub state-length : {n : ℕ} (v : List (List ℕ)) → State n w v → length (vectorBytes w v) ≡ n * w
   state-length v st = length-vectorBytes v (each-of st) ∙ ap (λ (n : ℕ). n * w) (st .size)
 
   module _ (b : List ℕ) (hb : Bytes b) where
     -- the bytes of the vectors in bytes
-    bytes-vectors-at : (n i : ℕ) → i + n * w ≤ length b → vectorBytes w (vectorsFrom w n b i) ≡ take (n * w) (drop i b)
+    pub bytes-vectors-at : (n i : ℕ) → i + n * w ≤ length b → vectorBytes w (vectorsFrom w n b i) ≡ take (n * w) (drop i b)
     bytes-vectors-at zero i h = rw (zero-mul w)
     bytes-vectors-at (suc n) i h =
         let e : suc n * w ≡ w + n * w = suc-mul n w ∙ omega arith in
@@ -87,8 +87,8 @@ module _ (w : ℕ) (hw : Bytewise w) where
         (bytes-vectors-at n (i + w) r ∙ ap (take (n * w)) (sym (drop-drop w i b)))
         ∙ sym (take-add w (n * w) (drop i b)) ∙ ap (λ (j : ℕ). take j (drop i b)) (sym e)
 
-    pub bytes-vectors : length b ≡ placeCount * w → vectorBytes w (vectorsFrom w placeCount b 0) ≡ b
-    bytes-vectors e = bytes-vectors-at placeCount 0 (omega arith) ∙ take-all (placeCount * w) b (omega arith)
+    pub bytes-vectors : (n : ℕ) → length b ≡ n * w → vectorBytes w (vectorsFrom w n b 0) ≡ b
+    bytes-vectors n e = bytes-vectors-at n 0 (omega arith) ∙ take-all (n * w) b (omega arith)
 
     each-from : (n i j : ℕ) → j < n → Vector w (at (vectorsFrom w n b i) j)
     each-from zero i j l = absurd (omega arith)
@@ -99,8 +99,8 @@ module _ (w : ℕ) (hw : Bytewise w) where
     length-from zero i = refl
     length-from (suc n) i = ap suc (length-from n (i + w))
 
-    pub lent-state : State w (vectorsFrom w placeCount b 0)
-    lent-state = record { size = length-from placeCount 0; each = each-from placeCount 0 }
+    pub lent-state : (n : ℕ) → State n w (vectorsFrom w n b 0)
+    lent-state n = record { size = length-from n 0; each = each-from n 0 }
 
   -- one vector written over
   bytes-set : (v : List (List ℕ)) → ((i : ℕ) → i < length v → Vector w (at v i)) → (d : ℕ) (x : List ℕ) → d < length v
@@ -130,8 +130,8 @@ module _ (w : ℕ) (hw : Bytewise w) where
       → vectorsFrom w placeCount (take (d * w) b ++ (bytesOf (w / 8) x ++ drop (d * w + w) b)) 0 ≡ set (vectorsFrom w placeCount b 0) d x
   vectors-written b hb e d x h hx =
       let v = vectorsFrom w placeCount b 0 in
-      let st = lent-state b hb in
-      let back = bytes-vectors b hb e in
+      let st = lent-state b hb placeCount in
+      let back = bytes-vectors b hb placeCount e in
       ap (λ (l : List ℕ). vectorsFrom w placeCount (take (d * w) l ++ (bytesOf (w / 8) x ++ drop (d * w + w) l)) 0) (sym back)
       ∙ ap (λ (l : List ℕ). vectorsFrom w placeCount l 0) (sym (bytes-set v (each-of st) d x (in-range st h)))
       ∙ vectors-bytes (set v d x) (set-state st d x h hx)

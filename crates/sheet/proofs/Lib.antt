@@ -9,6 +9,7 @@ pub mod Lent
 pub mod Undoing
 pub mod Counting
 pub mod RoundTrip
+pub mod Compatible
 pub mod Fitting
 pub mod Ran
 pub mod Parts

@@ -29,21 +29,21 @@ module _ (g : Direction) (w : ℕ) (s b : List ℕ) where
   leaves e = ap (λ (a : Answer). outcome a (vectorBytes w (runVectors g w s (vectorsIn w b))) b) e
 
   pub width-refused : (w ≡ 32 → ⊥) → (w ≡ 64 → ⊥) → (Refused Width 0 ≡ runAnswer w s b) × (b ≡ runBytes g w s b)
-  width-refused h k = let e : Refused Width 0 ≡ runAnswer w s b = Tests.width-refused w _ s _ (rw (ne-eqb w 32 h, ne-eqb w 64 k)) in (e, leaves e)
+  width-refused h k = let e : Refused Width 0 ≡ runAnswer w s b = Tests.width-refused placeCount w _ s _ (rw (ne-eqb w 32 h, ne-eqb w 64 k)) in (e, leaves e)
 
   module _ (k : knownWidth w ≡ true) where
     pub size-refused : eqb (length b) (placeCount * w) ≡ false → (Refused Operand 0 ≡ runAnswer w s b) × (b ≡ runBytes g w s b)
     size-refused h =
-        let e : Refused Operand 0 ≡ runAnswer w s b = Tests.operand-refused w _ s _ k h in (e, leaves e)
+        let e : Refused Operand 0 ≡ runAnswer w s b = Tests.operand-refused placeCount w _ s _ k h in (e, leaves e)
 
     module _ (h : eqb (length b) (placeCount * w) ≡ true) where
       pub fault-refused : (r : Refusal) (i : ℕ) → Faulty r i ≡ summary w s (planOf w s) → (Refused r i ≡ runAnswer w s b) × (b ≡ runBytes g w s b)
       fault-refused r i f =
-          let e : Refused r i ≡ runAnswer w s b = Tests.fault-refused w _ s _ k h r i (faulted w s r i f) in (e, leaves e)
+          let e : Refused r i ≡ runAnswer w s b = Tests.fault-refused placeCount w _ s _ k h r i (faulted w s r i f) in (e, leaves e)
 
       pub ran : {n t : ℕ} (last : List ℕ) → Bytes last → length last ≡ length b → Whole n t ≡ summary w s (planOf w s)
           → vectorsIn w last ≡ runVectors g w s (vectorsIn w b) → (Done t ≡ runAnswer w s b) × (last ≡ runBytes g w s b)
       ran last hl el f v =
           let c = checked w s f in
-          let e = Tests.passes w _ s _ (record { width = k; operands = h; sheet = c .sound }) in
-          (ap Done (c .total) ∙ e, sym (bytes-vectors w (bytewise w k) last hl (el ∙ eqb-true (length b) (placeCount * w) h)) ∙ ap (vectorBytes w) v ∙ leaves e)
+          let e = Tests.passes placeCount w _ s _ (record { width = k; operands = h; sheet = c .sound }) in
+          (ap Done (c .total) ∙ e, sym (bytes-vectors w (bytewise w k) last hl placeCount (el ∙ eqb-true (length b) (placeCount * w) h)) ∙ ap (vectorBytes w) v ∙ leaves e)

@@ -36,7 +36,7 @@ module _ (g : Direction) (w : ℕ) (s : List ℕ) (hs : Bytes s) (b : List ℕ) 
   abbrev new : Direction → List ℕ → List ℕ
   new g b = vectorBytes w (runVectors g w s (vectorsIn w b))
 
-  module _ (p : Passed w (fit (length b)) s) where
+  module _ (p : Passed placeCount w (fit (length b)) s) where
     width : Bytewise w
     width = bytewise w (p .width)
 
@@ -44,25 +44,25 @@ module _ (g : Direction) (w : ℕ) (s : List ℕ) (hs : Bytes s) (b : List ℕ) 
     size = eqb-true (length b) (placeCount * w) (p .operands)
 
     new-length : length (new g b) ≡ length b
-    new-length = state-length w width (runVectors g w s (vectorsIn w b)) (run-state w width s hs (lent-state w width b hb) g) ∙ sym size
+    new-length = state-length w width (runVectors g w s (vectorsIn w b)) (run-state w width s hs (lent-state w width b hb placeCount) g) ∙ sym size
 
     new-bytes : Bytes (new g b)
     new-bytes = bytes-of-vectors w width (runVectors g w s (vectorsIn w b))
 
     new-back : new (other g) (new g b) ≡ b
     new-back =
-        let st = lent-state w width b hb in
+        let st = lent-state w width b hb placeCount in
         let v = runVectors g w s (vectorsIn w b) in
         ap (λ (v : List (List ℕ)). vectorBytes w (runVectors (other g) w s v)) (vectors-bytes w width v (run-state w width s hs st g))
         ∙ ap (vectorBytes w) (run-back w width s hs st g)
-        ∙ bytes-vectors w width b hb size
+        ∙ bytes-vectors w width b hb placeCount size
 
   -- what holds of b and, behind the tests, of the new bytes holds of what a run leaves
   run-length : length (runBytes g w s b) ≡ length b
-  run-length = refused-or w (fit (length b)) s done (λ a. length (outcome a (new g b) b) ≡ length b) (λ r i. refl) new-length
+  run-length = refused-or placeCount w (fit (length b)) s done (λ a. length (outcome a (new g b) b) ≡ length b) (λ r i. refl) new-length
 
   run-bytes : Bytes (runBytes g w s b)
-  run-bytes = refused-or w (fit (length b)) s done (λ a. Bytes (outcome a (new g b) b)) (λ r i. hb) new-bytes
+  run-bytes = refused-or placeCount w (fit (length b)) s done (λ a. Bytes (outcome a (new g b) b)) (λ r i. hb) new-bytes
 
   -- the same run in the other direction
   same-answer : runAnswer w s (runBytes g w s b) ≡ runAnswer w s b
@@ -72,7 +72,7 @@ module _ (g : Direction) (w : ℕ) (s : List ℕ) (hs : Bytes s) (b : List ℕ) 
   there-and-back =
       let left : Answer → List ℕ = λ a. outcome a (new g b) b in
       ap (λ (a : Answer). outcome a (new (other g) (runBytes g w s b)) (runBytes g w s b)) same-answer
-      ∙ refused-or w (fit (length b)) s done (λ a. outcome a (new (other g) (left a)) (left a) ≡ b) (λ r i. refl) new-back
+      ∙ refused-or placeCount w (fit (length b)) s done (λ a. outcome a (new (other g) (left a)) (left a) ≡ b) (λ r i. refl) new-back
 
 -- ---- a list of runs
 

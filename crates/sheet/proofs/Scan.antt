@@ -10,12 +10,12 @@ use Rattle.answer.specs.declared.Refusal.the-variants.{Sheet}
 use Rattle.sheet.specs.declared.Decoded.{Decoded}
 use Rattle.sheet.specs.declared.Read.{Read}
 use Rattle.sheet.specs.declared.Read.the-variants.{Got, Fault, End}
-use Rattle.sheet.specs.Read.{readAt}
-use Rattle.sheet.specs.Sheet.{Sound, refused, behind, continue, scanFrom, planOf}
+use Rattle.sheet.specs.Read.{readAmong, readAt}
+use Rattle.sheet.specs.Sheet.{Sound, refused, behind, continue, scanFrom, planAmong, planOf}
 
 module _ (w : ℕ) (s : List ℕ) where
   pub read-end : (i : ℕ) → length s ≤ i → readAt w s i ≡ End
-  unfolding readAt
+  unfolding readAmong
   read-end i h = rw (le-leb _ _ h)
 
   -- one command, a fault or the end, where f commands may come still
@@ -32,9 +32,9 @@ module _ (w : ℕ) (s : List ℕ) where
 
   -- a sheet of at most 4,096 bytes, and a longer one
   pub plan-scanned : length s ≤ 4096 → scanFrom (length s) w s 0 ≡ planOf w s
-  unfolding planOf
+  unfolding planAmong
   plan-scanned h = rw (le-ltb 4096 (length s) h)
 
   pub plan-long : 4096 < length s → refused Sheet 0 ≡ planOf w s
-  unfolding planOf
+  unfolding planAmong
   plan-long h = rw (lt-ltb 4096 (length s) h)

@@ -9,47 +9,47 @@ use Rattle.answer.specs.declared.Refusal.{Refusal}
 use Rattle.answer.specs.declared.Refusal.the-variants.{Width, Operand}
 use Rattle.answer.proofs.Refuse.{unless-cases}
 use Rattle.quasigroup.specs.Tables.{knownWidth}
-use Rattle.sheet.specs.Sheet.{Outcome, Sound, Faulty, planOf}
-use Rattle.sheet.specs.SheetAnswer.{unlessSound, sheetAnswer}
+use Rattle.sheet.specs.Sheet.{Outcome, Sound, Faulty, planAmong}
+use Rattle.sheet.specs.SheetAnswer.{unlessSound, sheetAnswerAmong}
 
 sound-cases : (P : Answer → Type 0) (o : Outcome) (next : Answer) → ((r : Refusal) (i : ℕ) → o ≡ Faulty r i → P (Refused r i)) → (o ≡ Sound → P next)
     → P (unlessSound o next)
 sound-cases P Sound next f g = g refl
 sound-cases P (Faulty r i) next f g = f r i refl
 
-module _ (w : ℕ) (fit : Bool) (s : List ℕ) where
+module _ (n w : ℕ) (fit : Bool) (s : List ℕ) where
   -- what is known behind the tests
   pub record Passed : Type 0 where
     pub width : knownWidth w ≡ true
     pub operands : fit ≡ true
-    pub sheet : planOf w s .outcome ≡ Sound
+    pub sheet : planAmong n w s .outcome ≡ Sound
 
   module _ (next : Answer) where
-    pub width-refused : knownWidth w ≡ false → Refused Width 0 ≡ sheetAnswer w fit s next
-    unfolding sheetAnswer
+    pub width-refused : knownWidth w ≡ false → Refused Width 0 ≡ sheetAnswerAmong n w fit s next
+    unfolding sheetAnswerAmong
     width-refused h = rw h
 
-    pub operand-refused : knownWidth w ≡ true → fit ≡ false → Refused Operand 0 ≡ sheetAnswer w fit s next
-    unfolding sheetAnswer
+    pub operand-refused : knownWidth w ≡ true → fit ≡ false → Refused Operand 0 ≡ sheetAnswerAmong n w fit s next
+    unfolding sheetAnswerAmong
     operand-refused h k = rw (h, k)
 
-    pub fault-refused : knownWidth w ≡ true → fit ≡ true → (r : Refusal) (i : ℕ) → planOf w s .outcome ≡ Faulty r i → Refused r i ≡ sheetAnswer w fit s next
-    unfolding sheetAnswer
+    pub fault-refused : knownWidth w ≡ true → fit ≡ true → (r : Refusal) (i : ℕ) → planAmong n w s .outcome ≡ Faulty r i → Refused r i ≡ sheetAnswerAmong n w fit s next
+    unfolding sheetAnswerAmong
     fault-refused h k r i e = rw (h, k, e)
 
-    pub passes : Passed → next ≡ sheetAnswer w fit s next
-    unfolding sheetAnswer
+    pub passes : Passed → next ≡ sheetAnswerAmong n w fit s next
+    unfolding sheetAnswerAmong
     passes p = rw (p .width, p .operands, p .sheet)
 
     -- what holds of each refusal under its condition, and behind the tests of what comes next, holds of the answer
     pub by-tests : (P : Answer → Type 0) → (knownWidth w ≡ false → P (Refused Width 0)) → (fit ≡ false → P (Refused Operand 0))
-        → ((r : Refusal) (i : ℕ) → planOf w s .outcome ≡ Faulty r i → P (Refused r i)) → (Passed → P next) → P (sheetAnswer w fit s next)
-    unfolding sheetAnswer
+        → ((r : Refusal) (i : ℕ) → planAmong n w s .outcome ≡ Faulty r i → P (Refused r i)) → (Passed → P next) → P (sheetAnswerAmong n w fit s next)
+    unfolding sheetAnswerAmong
     by-tests P width operand fault pass =
         unless-cases P (knownWidth w) Width _ width λ h.
         unless-cases P fit Operand _ operand λ k.
-        sound-cases P (planOf w s .outcome) next fault λ e.
+        sound-cases P (planAmong n w s .outcome) next fault λ e.
         pass (record { width = h; operands = k; sheet = e })
 
-    pub refused-or : (P : Answer → Type 0) → ((r : Refusal) (i : ℕ) → P (Refused r i)) → (Passed → P next) → P (sheetAnswer w fit s next)
+    pub refused-or : (P : Answer → Type 0) → ((r : Refusal) (i : ℕ) → P (Refused r i)) → (Passed → P next) → P (sheetAnswerAmong n w fit s next)
     refused-or P refused pass = by-tests P (λ _. refused Width 0) (λ _. refused Operand 0) (λ r i _. refused r i) pass

@@ -19,24 +19,24 @@ use Rattle.sheet.specs.declared.Command.{Command}
 use Rattle.sheet.specs.declared.Command.the-variants.{Lmul, Rmul, Ldiv, Rdiv, Swap, Flip, Kmul, Kdiv}
 use Rattle.sheet.specs.declared.Read.{Read}
 use Rattle.sheet.specs.declared.Read.the-variants.{Got, Fault, End}
-use Rattle.sheet.specs.Read.{placeCount, readAt}
-use Rattle.sheet.specs.Sheet.{planOf}
+use Rattle.sheet.specs.Read.{readAmong}
+use Rattle.sheet.specs.Sheet.{planAmong}
 use Rattle.sheet.specs.Effect.{at, vectorAt, effect, undone}
-use Rattle.sheet.specs.Run.{Direction, Forward, Backward, other, order, stepWith, step, steps, runVectors}
-use Rattle.sheet.specs.Sound.{SoundPlaces, SoundCommand, SoundRead}
+use Rattle.sheet.specs.Run.{Direction, Forward, Backward, other, order, stepWith, stepAmong, stepsAmong, runVectorsAmong}
+use Rattle.sheet.specs.Sound.{SoundPlaces, SoundAmong, SoundRead}
 use Rattle.sheet.proofs.Sound.{read-sound}
 use Rattle.sheet.proofs.Lent.{State, in-range, set-state}
 
 -- ---- one vector changed
 
-module _ {w : ℕ} {v : List (List ℕ)} (st : State w v) where
+module _ {n w : ℕ} {v : List (List ℕ)} (st : State n w v) where
   -- f at place d, and then g there
-  back : (f g : List ℕ → List ℕ) → Undo w f g → (d : ℕ) → d < placeCount → set (set v d (f (at v d))) d (g (at (set v d (f (at v d))) d)) ≡ v
+  back : (f g : List ℕ → List ℕ) → Undo w f g → (d : ℕ) → d < n → set (set v d (f (at v d))) d (g (at (set v d (f (at v d))) d)) ≡ v
   back f g u d h =
       rw (getD-set-same v d (f (at v d)) [] (in-range st h), u .left (at v d) (st .each d h), set-set v d (f (at v d)) (at v d)) (set-getD v d [])
 
   -- the same where the step takes another place's vector
-  back-by : (f g : List ℕ → List ℕ → List ℕ) → ((a : List ℕ) → Vector w a → Undo w (f a) (g a)) → (p : Places) → SoundPlaces p
+  back-by : (f g : List ℕ → List ℕ → List ℕ) → ((a : List ℕ) → Vector w a → Undo w (f a) (g a)) → (p : Places) → SoundPlaces n p
       → set (set v (p .d) (f (at v (p .s)) (at v (p .d)))) (p .d)
       (g (at (set v (p .d) (f (at v (p .s)) (at v (p .d)))) (p .s)) (at (set v (p .d) (f (at v (p .s)) (at v (p .d)))) (p .d)))
       ≡ v
@@ -44,14 +44,14 @@ module _ {w : ℕ} {v : List (List ℕ)} (st : State w v) where
       rw (getD-set-other v (p .d) (p .s) (f (at v (p .s)) (at v (p .d))) [] (h .apart))
       (back (f (at v (p .s))) (g (at v (p .s))) (u (at v (p .s)) (st .each (p .s) (h .second))) (p .d) (h .first))
 
-  state-at : (f g : List ℕ → List ℕ) → Undo w f g → (d : ℕ) → d < placeCount → State w (set v d (f (at v d)))
+  state-at : (f g : List ℕ → List ℕ) → Undo w f g → (d : ℕ) → d < n → State n w (set v d (f (at v d)))
   state-at f g u d h = set-state st d (f (at v d)) h (u .there (at v d) (st .each d h))
 
-  state-by : (f g : List ℕ → List ℕ → List ℕ) → ((a : List ℕ) → Vector w a → Undo w (f a) (g a)) → (p : Places) → SoundPlaces p
-      → State w (set v (p .d) (f (at v (p .s)) (at v (p .d))))
+  state-by : (f g : List ℕ → List ℕ → List ℕ) → ((a : List ℕ) → Vector w a → Undo w (f a) (g a)) → (p : Places) → SoundPlaces n p
+      → State n w (set v (p .d) (f (at v (p .s)) (at v (p .d))))
   state-by f g u p h = state-at (f (at v (p .s))) (g (at v (p .s))) (u (at v (p .s)) (st .each (p .s) (h .second))) (p .d) (h .first)
 
-  swap-back : (p : Places) → SoundPlaces p
+  swap-back : (p : Places) → SoundPlaces n p
       → set (set (set (set v (p .d) (at v (p .s))) (p .s) (at v (p .d))) (p .d) (at (set (set v (p .d) (at v (p .s))) (p .s) (at v (p .d))) (p .s)))
       (p .s) (at (set (set v (p .d) (at v (p .s))) (p .s) (at v (p .d))) (p .d))
       ≡ v
@@ -73,15 +73,15 @@ module _ {w : ℕ} {v : List (List ℕ)} (st : State w v) where
 
 -- ---- one command
 
-pub sound-undone : (w n : ℕ) (c : Command) → SoundCommand w n c → SoundCommand w n (undone c)
-sound-undone w n (Lmul p) h = h
-sound-undone w n (Rmul p) h = h
-sound-undone w n (Ldiv p) h = h
-sound-undone w n (Rdiv p) h = h
-sound-undone w n (Swap p) h = h
-sound-undone w n (Flip d) h = h
-sound-undone w n (Kmul d k) h = h
-sound-undone w n (Kdiv d k) h = h
+pub sound-undone : (n w m : ℕ) (c : Command) → SoundAmong n w m c → SoundAmong n w m (undone c)
+sound-undone n w m (Lmul p) h = h
+sound-undone n w m (Rmul p) h = h
+sound-undone n w m (Ldiv p) h = h
+sound-undone n w m (Rdiv p) h = h
+sound-undone n w m (Swap p) h = h
+sound-undone n w m (Flip d) h = h
+sound-undone n w m (Kmul d k) h = h
+sound-undone n w m (Kdiv d k) h = h
 
 undone-undone : (c : Command) → undone (undone c) ≡ c
 undone-undone (Lmul p) = refl
@@ -97,18 +97,18 @@ module _ (w : ℕ) (hw : Bytewise w) (s : List ℕ) (hs : Bytes s) where
   left-by : (k : ℕ) → Undo w (product (widthOf w) (vectorAt w s k)) (leftDivision (widthOf w) (vectorAt w s k))
   left-by k = left-division-undoes w hw (vectorAt w s k) (vector-at w hw s hs k)
 
-  effect-state : {v : List (List ℕ)} → State w v → (c : Command) → SoundCommand w (length s) c → State w (effect w s c v)
+  effect-state : {n : ℕ} {v : List (List ℕ)} → State n w v → (c : Command) → SoundAmong n w (length s) c → State n w (effect w s c v)
   effect-state st (Lmul p) h = state-by st (product (widthOf w)) (leftDivision (widthOf w)) (left-division-undoes w hw) p h
   effect-state st (Rmul p) h = state-by st (λ a y. product (widthOf w) y a) (λ a y. rightDivision (widthOf w) y a) (right-division-undoes w hw) p h
   effect-state st (Ldiv p) h = state-by st (leftDivision (widthOf w)) (product (widthOf w)) (λ a k. turn (left-division-undoes w hw a k)) p h
   effect-state st (Rdiv p) h = state-by st (λ a y. rightDivision (widthOf w) y a) (λ a y. product (widthOf w) y a) (λ a k. turn (right-division-undoes w hw a k)) p h
-  effect-state {v} st (Swap p) h =
+  effect-state {v = v} st (Swap p) h =
       set-state (set-state st (p .d) (at v (p .s)) (h .first) (st .each (p .s) (h .second))) (p .s) (at v (p .d)) (h .second) (st .each (p .d) (h .first))
   effect-state st (Flip d) h = state-at st reversed reversed (reversed-undo w) d h
   effect-state st (Kmul d k) h = state-at st (product (widthOf w) (vectorAt w s k)) (leftDivision (widthOf w) (vectorAt w s k)) (left-by k) d (h .place)
   effect-state st (Kdiv d k) h = state-at st (leftDivision (widthOf w) (vectorAt w s k)) (product (widthOf w) (vectorAt w s k)) (turn (left-by k)) d (h .place)
 
-  effect-back : {v : List (List ℕ)} → State w v → (c : Command) → SoundCommand w (length s) c → effect w s (undone c) (effect w s c v) ≡ v
+  effect-back : {n : ℕ} {v : List (List ℕ)} → State n w v → (c : Command) → SoundAmong n w (length s) c → effect w s (undone c) (effect w s c v) ≡ v
   effect-back st (Lmul p) h = back-by st (product (widthOf w)) (leftDivision (widthOf w)) (left-division-undoes w hw) p h
   effect-back st (Rmul p) h = back-by st (λ a y. product (widthOf w) y a) (λ a y. rightDivision (widthOf w) y a) (right-division-undoes w hw) p h
   effect-back st (Ldiv p) h = back-by st (leftDivision (widthOf w)) (product (widthOf w)) (λ a k. turn (left-division-undoes w hw a k)) p h
@@ -120,41 +120,43 @@ module _ (w : ℕ) (hw : Bytewise w) (s : List ℕ) (hs : Bytes s) where
 
   -- ---- commands as they are done in a direction
 
-  with-state : {v : List (List ℕ)} → State w v → (g : Direction) (i : ℕ) (r : Read) → SoundRead w (length s) i r → State w (stepWith g w s r v)
+  with-state : {n : ℕ} {v : List (List ℕ)} → State n w v → (g : Direction) (i : ℕ) (r : Read) → SoundRead n w (length s) i r
+      → State n w (stepWith g w s r v)
   with-state st Forward i (Got d) h = effect-state st (d .command) (h .sound)
-  with-state st Backward i (Got d) h = effect-state st (undone (d .command)) (sound-undone w (length s) (d .command) (h .sound))
+  with-state {n} st Backward i (Got d) h = effect-state st (undone (d .command)) (sound-undone n w (length s) (d .command) (h .sound))
   with-state st g i (Fault r) h = st
   with-state st g i End h = st
 
-  with-back : {v : List (List ℕ)} → State w v → (g : Direction) (i : ℕ) (r : Read) → SoundRead w (length s) i r
+  with-back : {n : ℕ} {v : List (List ℕ)} → State n w v → (g : Direction) (i : ℕ) (r : Read) → SoundRead n w (length s) i r
       → stepWith (other g) w s r (stepWith g w s r v) ≡ v
   with-back st Forward i (Got d) h = effect-back st (d .command) (h .sound)
-  with-back st Backward i (Got d) h =
+  with-back {n} st Backward i (Got d) h =
       let c = d .command in
-      rw (undone-undone c) at (effect-back st (undone c) (sound-undone w (length s) c (h .sound)))
+      rw (undone-undone c) at (effect-back st (undone c) (sound-undone n w (length s) c (h .sound)))
   with-back st g i (Fault r) h = refl
   with-back st g i End h = refl
 
   -- the step at an offset can be taken back
-  invertible : (g : Direction) → Invertible (λ (i : ℕ). Unit {0}) (State w) (step g w s) (step (other g) w s)
-  invertible g =
+  pub invertible : (n : ℕ) (g : Direction) → Invertible (λ (i : ℕ). Unit {0}) (State n w) (stepAmong n g w s) (stepAmong n (other g) w s)
+  invertible n g =
       record {
-        keeps = λ i v _ st. with-state st g i (readAt w s i) (read-sound w s i);
-        back = λ i v _ st. with-back st g i (readAt w s i) (read-sound w s i);
+        keeps = λ i v _ st. with-state st g i (readAmong n w s i) (read-sound n w s i);
+        back = λ i v _ st. with-back st g i (readAmong n w s i) (read-sound n w s i);
       }
 
-  steps-back : {v : List (List ℕ)} → State w v → (g : Direction) (l : List ℕ) → steps (other g) w s (reverse l) (steps g w s l v) ≡ v
-  steps-back {v} st g l = reversal-undoes (invertible g) (each (λ _. tt) l) v st
+  module _ {n : ℕ} {v : List (List ℕ)} (st : State n w v) where
+    steps-back : (g : Direction) (l : List ℕ) → stepsAmong n (other g) w s (reverse l) (stepsAmong n g w s l v) ≡ v
+    steps-back g l = reversal-undoes (invertible n g) (each (λ _. tt) l) v st
 
-  -- a sheet's commands in one direction, and then in the other
-  there-and-back : {v : List (List ℕ)} → State w v → (g : Direction) (l : List ℕ) → steps (other g) w s (order (other g) l) (steps g w s (order g l) v) ≡ v
-  there-and-back st Forward l = steps-back st Forward l
-  there-and-back {v} st Backward l =
-      ap (λ (m : List ℕ). steps Forward w s m (steps Backward w s (reverse l) v)) (sym (reverse-reverse l)) ∙ steps-back st Backward (reverse l)
+    -- a sheet's commands in one direction, and then in the other
+    there-and-back : (g : Direction) (l : List ℕ) → stepsAmong n (other g) w s (order (other g) l) (stepsAmong n g w s (order g l) v) ≡ v
+    there-and-back Forward l = steps-back Forward l
+    there-and-back Backward l =
+        ap (λ (m : List ℕ). stepsAmong n Forward w s m (stepsAmong n Backward w s (reverse l) v)) (sym (reverse-reverse l)) ∙ steps-back Backward (reverse l)
 
-  -- a whole sheet
-  pub run-state : {v : List (List ℕ)} → State w v → (g : Direction) → State w (runVectors g w s v)
-  run-state {v} st g = kept (invertible g) (each (λ _. tt) (order g (planOf w s .offsets))) v st
+    -- a whole sheet
+    pub run-state : (g : Direction) → State n w (runVectorsAmong n g w s v)
+    run-state g = kept (invertible n g) (each (λ _. tt) (order g (planAmong n w s .offsets))) v st
 
-  pub run-back : {v : List (List ℕ)} → State w v → (g : Direction) → runVectors (other g) w s (runVectors g w s v) ≡ v
-  run-back st g = there-and-back st g (planOf w s .offsets)
+    pub run-back : (g : Direction) → runVectorsAmong n (other g) w s (runVectorsAmong n g w s v) ≡ v
+    run-back g = there-and-back g (planAmong n w s .offsets)

@@ -8,5 +8,6 @@ pub mod SheetAnswer
 pub mod Run
 pub mod Counting
 pub mod RoundTrip
+pub mod Compatible
 pub mod Fitting
 pub mod Sound

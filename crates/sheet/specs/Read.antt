@@ -1,5 +1,5 @@
--- Document 01, "The load sheet": reading one command. A sheet is document 01's term for the bytes of a list of commands, a place for the
--- number of one of the vectors.
+-- Document 01, "The load sheet": reading one command, over the number n of places. Document 02, Paper 8, makes it eight, and names without `Among` are at
+-- eight. A sheet is document 01's term for the bytes of a list of commands, a place for the number of one of the vectors.
 use mathlib.Core.Bool.{cond, _||_}
 use mathlib.Core.List.{List}
 use Prim.Native.Nat.{ℕ, _+_}
@@ -13,9 +13,9 @@ use Rattle.sheet.specs.declared.Read.{Read}
 use Rattle.sheet.specs.declared.Read.the-variants.{Got, Fault, End}
 use Rattle.sheet.specs.Units.{units}
 
--- the number of vectors: V0 to V3
+-- the number of vectors: V0 to V7
 abbrev pub placeCount : ℕ
-placeCount = 4
+placeCount = 8
 
 -- the bytes that a command takes at width w, by its opcode b: 01 d s to 05 d s; 06 d; 07 d K and 08 d K, where K takes w bytes
 abbrev pub sizeOf : ℕ → ℕ → ℕ
@@ -34,29 +34,39 @@ twoPlaceCommand b p =
 abbrev pub onePlaceCommand : ℕ → ℕ → ℕ → Command
 onePlaceCommand b d k = cond (eqb b 6) (Flip d) (cond (eqb b 7) (Kmul d k) (Kdiv d k))
 
--- a command that was read, with the offset n behind it and its units
+-- a command that was read, with the offset `next` behind it and its units
 abbrev pub got : Command → ℕ → Read
-got c n = Got (record { command = c; next = n; units = units c })
+got c next = Got (record { command = c; next = next; units = units c })
 
--- a command of two places: both are below placeCount, and they differ
-abbrev pub twoPlaces : ℕ → Places → ℕ → Read
-twoPlaces b p n =
-    cond (leb placeCount (p .d) || leb placeCount (p .s)) (Fault Place)
+-- a command of two places: both are below n, and they differ
+abbrev pub twoPlacesAmong : ℕ → ℕ → Places → ℕ → Read
+twoPlacesAmong n b p next =
+    cond (leb n (p .d) || leb n (p .s)) (Fault Place)
     (cond (eqb (p .d) (p .s)) (Fault SamePlace)
-    (got (twoPlaceCommand b p) n))
+    (got (twoPlaceCommand b p) next))
 
 -- a command of one place
-abbrev pub onePlace : ℕ → ℕ → ℕ → ℕ → Read
-onePlace b d k n = cond (leb placeCount d) (Fault Place) (got (onePlaceCommand b d k) n)
+abbrev pub onePlaceAmong : ℕ → ℕ → ℕ → ℕ → ℕ → Read
+onePlaceAmong n b d k next = cond (leb n d) (Fault Place) (got (onePlaceCommand b d k) next)
 
 -- what stands at offset i of the sheet s, with opcode b: its end; 8, no opcode; 9, the sheet ends inside the command; 10 and 11 by the places
-abbrev pub readWith : ℕ → List ℕ → ℕ → ℕ → Read
-readWith w s i b =
+abbrev pub readWith : ℕ → ℕ → List ℕ → ℕ → ℕ → Read
+readWith n w s i b =
     cond (leb (length s) i) End
     (cond (eqb b 0 || ltb 8 b) (Fault Opcode)
     (cond (ltb (length s) (i + sizeOf w b)) (Fault Truncated)
-    (cond (ltb b 6) (twoPlaces b (record { d = getD s (i + 1) 0; s = getD s (i + 2) 0 }) (i + sizeOf w b))
-    (onePlace b (getD s (i + 1) 0) (i + 2) (i + sizeOf w b)))))
+    (cond (ltb b 6) (twoPlacesAmong n b (record { d = getD s (i + 1) 0; s = getD s (i + 2) 0 }) (i + sizeOf w b))
+    (onePlaceAmong n b (getD s (i + 1) 0) (i + 2) (i + sizeOf w b)))))
 
-unfoldable pub readAt : ℕ → List ℕ → ℕ → Read
-readAt w s i = readWith w s i (getD s i 0)
+unfoldable pub readAmong : ℕ → ℕ → List ℕ → ℕ → Read
+readAmong n w s i = readWith n w s i (getD s i 0)
+
+-- among the eight
+abbrev pub twoPlaces : ℕ → Places → ℕ → Read
+twoPlaces b p next = twoPlacesAmong placeCount b p next
+
+abbrev pub onePlace : ℕ → ℕ → ℕ → ℕ → Read
+onePlace b d k next = onePlaceAmong placeCount b d k next
+
+abbrev pub readAt : ℕ → List ℕ → ℕ → Read
+readAt w s i = readAmong placeCount w s i

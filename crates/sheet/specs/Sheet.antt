@@ -1,4 +1,4 @@
--- Document 01, "The load sheet": a whole sheet, command by command.
+-- Document 01, "The load sheet": a whole sheet, command by command, over the number n of places.
 use mathlib.Core.Bool.{cond}
 use mathlib.Core.List.{List, [], _∷_}
 use Prim.Native.Nat.{ℕ, zero, suc}
@@ -8,7 +8,7 @@ use Rattle.answer.specs.declared.Refusal.{Refusal}
 use Rattle.answer.specs.declared.Refusal.the-variants.{Sheet}
 use Rattle.sheet.specs.declared.Read.{Read}
 use Rattle.sheet.specs.declared.Read.the-variants.{Got, Fault, End}
-use Rattle.sheet.specs.Read.{readAt}
+use Rattle.sheet.specs.Read.{placeCount, readAmong}
 
 -- every command is sound, or there is a first fault: its refusal, and the offset of the faulty command's first byte
 pub data Outcome : Type 0 where
@@ -34,10 +34,17 @@ continue End i rest = record { offsets = []; outcome = Sound }
 
 -- the plan from offset i on, in at most f steps. A command takes at least two bytes, so `length s` steps are enough, and a scan of as many never ends
 -- for lack of them: the law is `StepsEnough`, in Enough.antt.
-abbrev pub scanFrom : ℕ → ℕ → List ℕ → ℕ → Plan
-scanFrom zero w s i = record { offsets = []; outcome = Sound }
-scanFrom (suc f) w s i = continue (readAt w s i) i (scanFrom f w s)
+abbrev pub scanAmong : ℕ → ℕ → ℕ → List ℕ → ℕ → Plan
+scanAmong n zero w s i = record { offsets = []; outcome = Sound }
+scanAmong n (suc f) w s i = continue (readAmong n w s i) i (scanAmong n f w s)
 
 -- a whole sheet at width w: 7, over 4,096 bytes; then command by command
-unfoldable pub planOf : ℕ → List ℕ → Plan
-planOf w s = cond (ltb 4096 (length s)) (refused Sheet 0) (scanFrom (length s) w s 0)
+unfoldable pub planAmong : ℕ → ℕ → List ℕ → Plan
+planAmong n w s = cond (ltb 4096 (length s)) (refused Sheet 0) (scanAmong n (length s) w s 0)
+
+-- among the eight
+abbrev pub scanFrom : ℕ → ℕ → List ℕ → ℕ → Plan
+scanFrom f w s i = scanAmong placeCount f w s i
+
+abbrev pub planOf : ℕ → List ℕ → Plan
+planOf w s = planAmong placeCount w s

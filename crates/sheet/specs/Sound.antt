@@ -1,5 +1,5 @@
 -- What holds of a command that was read: its places are places, its K lies in the sheet, and it has bytes enough for its units. Of contracts, only
--- those of functions inside the kit cite this.
+-- those of functions inside the kit cite this. n is the number of places; `SoundCommand` and `SoundDecoded` are at eight.
 use mathlib.Core.Path.{_≡_}
 use Prim.Native.Nat.{ℕ, _+_, _*_, _≤_, _<_}
 use Rattle.sheet.specs.Read.{placeCount}
@@ -10,37 +10,43 @@ use Rattle.sheet.specs.declared.Decoded.{Decoded}
 use Rattle.sheet.specs.declared.Read.{Read}
 use Rattle.sheet.specs.declared.Read.the-variants.{Got, Fault, End}
 
-pub record SoundPlaces (p : Places) : Type 0 where
-  pub first : p .d < placeCount
-  pub second : p .s < placeCount
+pub record SoundPlaces (n : ℕ) (p : Places) : Type 0 where
+  pub first : p .d < n
+  pub second : p .s < n
   pub apart : p .s ≡ p .d → ⊥
 
-pub record SoundVector (w n d k : ℕ) : Type 0 where
-  pub place : d < placeCount
-  pub within : k + w ≤ n
+pub record SoundVector (n w m d k : ℕ) : Type 0 where
+  pub place : d < n
+  pub within : k + w ≤ m
 
--- of a command in a sheet of n bytes, at width w
+-- of a command in a sheet of m bytes, at width w
+abbrev pub SoundAmong : ℕ → ℕ → ℕ → Command → Type 0
+SoundAmong n w m (Lmul p) = SoundPlaces n p
+SoundAmong n w m (Rmul p) = SoundPlaces n p
+SoundAmong n w m (Ldiv p) = SoundPlaces n p
+SoundAmong n w m (Rdiv p) = SoundPlaces n p
+SoundAmong n w m (Swap p) = SoundPlaces n p
+SoundAmong n w m (Flip d) = d < n
+SoundAmong n w m (Kmul d k) = SoundVector n w m d k
+SoundAmong n w m (Kdiv d k) = SoundVector n w m d k
+
 abbrev pub SoundCommand : ℕ → ℕ → Command → Type 0
-SoundCommand w n (Lmul p) = SoundPlaces p
-SoundCommand w n (Rmul p) = SoundPlaces p
-SoundCommand w n (Ldiv p) = SoundPlaces p
-SoundCommand w n (Rdiv p) = SoundPlaces p
-SoundCommand w n (Swap p) = SoundPlaces p
-SoundCommand w n (Flip d) = d < placeCount
-SoundCommand w n (Kmul d k) = SoundVector w n d k
-SoundCommand w n (Kdiv d k) = SoundVector w n d k
+SoundCommand w m c = SoundAmong placeCount w m c
 
 -- .. read at offset i: the offset behind it is further on, and in the sheet; it counts one unit at most, and where a K takes a byte or more, one that
 -- counts takes three bytes or more
-pub record SoundDecoded (w n i : ℕ) (d : Decoded) : Type 0 where
-  pub sound : SoundCommand w n (d .command)
+pub record SoundDecodedAmong (n w m i : ℕ) (d : Decoded) : Type 0 where
+  pub sound : SoundAmong n w m (d .command)
   pub on : i + 2 ≤ d .next
-  pub within : d .next ≤ n
+  pub within : d .next ≤ m
   pub few : d .units ≤ 1
   pub taken : 1 ≤ w → i + 3 * d .units ≤ d .next
 
+abbrev pub SoundDecoded : ℕ → ℕ → ℕ → Decoded → Type 0
+SoundDecoded w m i d = SoundDecodedAmong placeCount w m i d
+
 -- of what was read at offset i
-abbrev pub SoundRead : ℕ → ℕ → ℕ → Read → Type 0
-SoundRead w n i (Got d) = SoundDecoded w n i d
-SoundRead w n i (Fault r) = i < n
-SoundRead w n i End = n ≤ i
+abbrev pub SoundRead : ℕ → ℕ → ℕ → ℕ → Read → Type 0
+SoundRead n w m i (Got d) = SoundDecodedAmong n w m i d
+SoundRead n w m i (Fault r) = i < m
+SoundRead n w m i End = m ≤ i

@@ -2,7 +2,7 @@
 use answer::Refusal;
 
 // The number of vectors that a sheet's commands work on.
-pub const PLACES: usize = 4;
+pub const PLACES: usize = 8;
 
 // The most bytes that a sheet has.
 pub const LONGEST: usize = 4096;

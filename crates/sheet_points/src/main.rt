@@ -25,7 +25,7 @@ fn print_answer(a: Answer) {
 fn print_run(name: &[u8], sheet: &[u8]) {
     io::write_all(STDOUT_FILENO, name);
     io::write_all(STDOUT_FILENO, b": ");
-    let mut vectors = [0u8; 128];
+    let mut vectors = [0u8; 256];
     print_answer(run::run_forward(32, &mut vectors, sheet));
 }
 
@@ -42,27 +42,27 @@ fn flips() -> [u8; 4096]
     sheet
 }
 
-// A command of each kind at width 32, and at width 64.
+// A command of each kind at width 32, and at width 64; every place is changed by one of them.
 const NARROW: [u8; 85] = [
     1,
     0,
     1,
     2,
-    1,
     2,
     3,
-    2,
     3,
     4,
-    3,
-    0,
+    5,
+    4,
+    6,
+    7,
     5,
     0,
-    2,
-    6,
-    1,
     7,
-    0,
+    6,
+    3,
+    7,
+    5,
     1,
     8,
     15,
@@ -136,21 +136,21 @@ const WIDE: [u8; 149] = [
     0,
     1,
     2,
-    1,
     2,
     3,
-    2,
     3,
     4,
-    3,
-    0,
+    5,
+    4,
+    6,
+    7,
     5,
     0,
-    2,
-    6,
-    1,
     7,
-    0,
+    6,
+    3,
+    7,
+    5,
     1,
     8,
     15,
@@ -303,19 +303,29 @@ fn print_round(width: u32, sheet: &[u8], start: &[u8], vectors: &mut [u8]) {
 }
 
 fn narrow_round() {
-    let mut start = [7u8; 128];
+    let mut start = [7u8; 256];
     start[0] = 1;
     start[33] = 2;
     start[66] = 3;
+    start[99] = 4;
+    start[132] = 5;
+    start[165] = 6;
+    start[198] = 8;
+    start[231] = 9;
     let mut vectors = start;
     print_round(32, &NARROW, &start, &mut vectors);
 }
 
 fn wide_round() {
-    let mut start = [7u8; 256];
+    let mut start = [7u8; 512];
     start[0] = 1;
     start[65] = 2;
     start[130] = 3;
+    start[195] = 4;
+    start[260] = 5;
+    start[325] = 6;
+    start[390] = 8;
+    start[455] = 9;
     let mut vectors = start;
     print_round(64, &WIDE, &start, &mut vectors);
 }

@@ -1,3 +1,4 @@
+use native.Mathlib.Omega.{arith}
 use borrow.Author.Needs.{needs}
 use Rattle.effect32.proofs.apply.Statement.{statement}
 use Rattle.effect32.proofs.apply.Tie as tie
@@ -7,14 +8,14 @@ multiply-places-requires c κs =
     let g = c .before .before in
     let p = g .before .before .before .before in
     let e = rw (g .c .given .1) at (p .pre .1) in
-    (p .pre .0, e .first, e .second, e .first)
+    (p .pre .0, omega arith, omega arith, omega arith)
 
 multiply-places-requires-2 : tie.Need-multiply-places-requires-2
 multiply-places-requires-2 c κs =
     let g = c .before .before in
     let p = g .before .before .before .before in
     let e = rw (g .c2 .given .1) at (p .pre .1) in
-    (p .pre .0, e .first, e .first, e .second)
+    (p .pre .0, omega arith, omega arith, omega arith)
 
 divide-left-requires : tie.Need-divide-left-requires
 divide-left-requires c κs =

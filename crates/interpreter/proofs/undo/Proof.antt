@@ -2,6 +2,7 @@ use mathlib.Core.Path.{sym, subst, _∙_}
 use borrow.Author.Needs.{needs}
 use denote.Ref.{now}
 use lib.ListN.{length}
+use Rattle.sheet.specs.Read.{placeCount}
 use Rattle.sheet.specs.Run.{vectorsIn}
 use Rattle.sheet.specs.Sound.{SoundCommand}
 use Rattle.sheet.proofs.Sound.{got-sound}
@@ -20,7 +21,7 @@ apply-requires c κs =
     let h = got-sound (a .width) (now (a .sheet)) (a .at) (sym (r .read-command .ensures) ∙ g .d .given .1) in (
       p .pre .0,
       p .pre .1,
-      subst (SoundCommand (a .width) n) (sym (c .before .opposite .ensures)) (sound-undone (a .width) n (g .d .given .0 .0 .command) (h .sound)),
+      subst (SoundCommand (a .width) n) (sym (c .before .opposite .ensures)) (sound-undone placeCount (a .width) n (g .d .given .0 .0 .command) (h .sound)),
     )
 
 returns : tie.Need-returns

@@ -6,24 +6,28 @@ use Rattle.reader.proofs.two_places.Statement.{statement}
 use Rattle.reader.proofs.two_places.Tie as tie
 
 returns : tie.Need-returns
-returns c = rw (le-leb _ _ (c .if1 .taken))
+returns c = rw (le-leb placeCount (c .before .before .args .p .d) (omega arith))
 
 returns-2 : tie.Need-returns-2
 returns-2 c =
-    let t = c .before .before in
-    let a = t .before .before .args in
-    rw (lt-leb _ _ (t .if1 .left), le-leb placeCount (a .p .s) (omega arith))
+    let p = c .before .before .before .before .args .p in
+    rw (lt-leb placeCount (p .d) (omega arith), le-leb placeCount (p .s) (omega arith))
 
 returns-3 : tie.Need-returns-3
 returns-3 c =
-    let t = c .before .before in
-    rw (lt-leb _ _ (t .before .before .if1 .left), lt-leb _ _ (t .if2 .left), eq-eqb _ _ (c .if3 .taken))
+    let p = c .before .before .before .before .before .before .args .p in
+    rw (lt-leb placeCount (p .d) (omega arith), lt-leb placeCount (p .s) (omega arith), eq-eqb (p .d) (p .s) (omega arith))
 
 returns-4 : tie.Need-returns-4
 returns-4 c =
-    let p = c .before .before in
-    let t = p .before .before in
-    rw (lt-leb _ _ (t .before .before .if1 .left), lt-leb _ _ (t .if2 .left), ne-eqb _ _ (p .if3 .left), ← c .before .two-place-command .ensures)
+    let t = c .before .before in
+    let p = t .before .before .before .before .before .before .args .p in
+    rw (
+      lt-leb placeCount (p .d) (omega arith),
+      lt-leb placeCount (p .s) (omega arith),
+      ne-eqb (p .d) (p .s) (t .if3 .left),
+      ← c .before .two-place-command .ensures,
+    )
     (c .got .ensures)
 
 pub two-places-spec : {M : Type 1} → statement M
