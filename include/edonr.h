@@ -148,7 +148,8 @@ uint64_t edonr_digest(uint32_t size, const uint8_t *message, size_t message_len,
  *   03 d s  ldiv  Vd becomes Vs\Vd        07 d K  kmul  Vd becomes K*Vd
  *   04 d s  rdiv  Vd becomes Vd/Vs        08 d K  kdiv  Vd becomes K\Vd
  *
- * In 01 to 05, d and s differ. The whole sheet is checked before any vector changes.
+ * In 01 to 05, d and s differ. The whole sheet is checked before any vector changes. A
+ * sheet that names the places 0 to 3 alone leaves V4 to V7 as they are.
  *
  * Work is counted in units: one for each product or division, so for 01 to 04, 07 and 08,
  * and none for 05 and 06. A command and the one that undoes it have the same units. A

@@ -113,7 +113,8 @@ static bool fuzz_run(enum direction direction)
     static struct sheet sheet;
     uint8_t vectors[RUN_CALL_VECTORS];
     uint32_t width = fuzz_width();
-    size_t vectors_len = (size_t)fuzz_number(EDONR_PLACES * (uint64_t)width);
+    uint64_t places = random_below(32) == 0 ? EDONR_PLACES / 2 : EDONR_PLACES;
+    size_t vectors_len = (size_t)fuzz_number(places * width);
     fuzz_sheet(width, &sheet);
     random_pattern(vectors, vectors_len <= sizeof vectors ? vectors_len : 0);
     struct run run = {direction, width, sheet.bytes, sheet.len};

@@ -1,5 +1,5 @@
 /*
- * Included by sheet.c, once with WIDTH 32 and once with WIDTH 64.
+ * Included by sheet_places.h, once with WIDTH 32 and once with WIDTH 64.
  *
  * A unit of work is one product or one division (document 02, Paper 3). Units are counted
  * where these are done: a function that does a command returns how many it did.
@@ -52,27 +52,25 @@ static unsigned AT_WIDTH(do_command)(enum code code, WORD vectors[PLACES][8],
     return 1;
 }
 
-static void AT_WIDTH(load_vectors)(unsigned places, const uint8_t *bytes,
-                                   WORD vectors[PLACES][8])
+static void AT_WIDTH(load_vectors)(const uint8_t *bytes, WORD vectors[PLACES][8])
 {
-    for (unsigned i = 0; i < places; i++)
+    for (unsigned i = 0; i < PLACES; i++)
         AT_WIDTH(load_vector)(bytes + i * WIDTH, vectors[i]);
 }
 
-static void AT_WIDTH(store_vectors)(unsigned places, WORD vectors[PLACES][8],
-                                    uint8_t *bytes)
+static void AT_WIDTH(store_vectors)(WORD vectors[PLACES][8], uint8_t *bytes)
 {
-    for (unsigned i = 0; i < places; i++)
+    for (unsigned i = 0; i < PLACES; i++)
         AT_WIDTH(store_vector)(vectors[i], bytes + i * WIDTH);
 }
 
 /* In order, or undoing from the last command to the first. Returns the units of it all. */
-static uint64_t AT_WIDTH(run)(unsigned places, enum direction direction, uint8_t *bytes,
+static uint64_t AT_WIDTH(run)(enum direction direction, uint8_t *bytes,
                               const uint8_t *sheet, const struct offsets *offsets)
 {
     WORD vectors[PLACES][8];
     uint64_t units = 0;
-    AT_WIDTH(load_vectors)(places, bytes, vectors);
+    AT_WIDTH(load_vectors)(bytes, vectors);
     for (size_t done = 0; done < offsets->count; done++) {
         size_t number = direction == FORWARD ? done : offsets->count - 1 - done;
         const uint8_t *command = sheet + offsets->at[number];
@@ -80,6 +78,6 @@ static uint64_t AT_WIDTH(run)(unsigned places, enum direction direction, uint8_t
         units += AT_WIDTH(do_command)(direction == FORWARD ? code : undoing(code), vectors,
                                       command);
     }
-    AT_WIDTH(store_vectors)(places, vectors, bytes);
+    AT_WIDTH(store_vectors)(vectors, bytes);
     return units;
 }

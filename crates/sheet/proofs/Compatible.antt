@@ -2,7 +2,7 @@
 -- the first p.
 use mathlib.Core.Path.{_≡_, refl, sym, ap, ap₂, _∙_}
 use mathlib.Core.Bool.{Bool, true, false, cond, _||_, false≢true}
-use mathlib.Core.List.{List, [], _∷_, _++_, append-assoc, sum, reverse}
+use mathlib.Core.List.{List, [], _∷_, _++_, append-assoc, sum}
 use Prim.Native.Nat.{ℕ, zero, suc, _+_, _*_, _/_, _≤_, _<_}
 use native.Mathlib.Nat.{zero-add, zero-mul, suc-mul, add-mul}
 use native.Mathlib.Omega.{arith}
@@ -14,7 +14,7 @@ use Rattle.answer.specs.declared.Answer.{Answer}
 use Rattle.answer.specs.declared.Answer.the-variants.{Done}
 use Rattle.answer.specs.declared.Refusal.{Refusal}
 use Rattle.answer.specs.declared.Refusal.the-variants.{Sheet, Place, SamePlace}
-use Rattle.answer.specs.Refuse.{isDone, outcome}
+use Rattle.answer.specs.Refuse.{isDone}
 use Rattle.answer.proofs.Tests.{neither}
 use Rattle.answer.proofs.Refuse.{done-outcome}
 use Rattle.invertible.specs.Invertible.{Each, none, more, stepped}
@@ -34,7 +34,8 @@ use Rattle.sheet.specs.Read.{sizeOf, got, twoPlaceCommand, twoPlacesAmon
 use Rattle.sheet.specs.Sheet.{Sound, Plan, refused, behind, continue, scanAmong, planAmong}
 use Rattle.sheet.specs.Effect.{at, vectorAt, effect, undone}
 use Rattle.sheet.specs.Work.{unitsIn, totalUnitsAmong}
-use Rattle.sheet.specs.Run.{Direction, Forward, Backward, order, stepWith, stepAmong, stepsAmong, vectorsFrom, vectorBytes, runVectorsAmong, runAnswerAmong, runBytesAmong}
+use Rattle.sheet.specs.Run.{Direction, Forward, Backward, order, stepWith, stepAmong, stepsAmong, vectorsFrom, vectorBytes}
+use Rattle.sheet.specs.Run.{runVectorsAmong, runAnswerAmong, runBytesAmong}
 use Rattle.sheet.specs.Sound.{SoundPlaces, SoundAmong, SoundRead}
 use Rattle.sheet.specs.Compatible.{Compatible}
 use Rattle.sheet.proofs.Sound.{read-sound}

@@ -46,4 +46,5 @@ module _ (g : Direction) (w : ℕ) (s b : List ℕ) where
       ran last hl el f v =
           let c = checked w s f in
           let e = Tests.passes placeCount w _ s _ (record { width = k; operands = h; sheet = c .sound }) in
-          (ap Done (c .total) ∙ e, sym (bytes-vectors w (bytewise w k) last hl placeCount (el ∙ eqb-true (length b) (placeCount * w) h)) ∙ ap (vectorBytes w) v ∙ leaves e)
+          let size = el ∙ eqb-true (length b) (placeCount * w) h in
+          (ap Done (c .total) ∙ e, sym (bytes-vectors w (bytewise w k) last hl placeCount size) ∙ ap (vectorBytes w) v ∙ leaves e)

@@ -33,7 +33,8 @@ module _ (n w : ℕ) (fit : Bool) (s : List ℕ) where
     unfolding sheetAnswerAmong
     operand-refused h k = rw (h, k)
 
-    pub fault-refused : knownWidth w ≡ true → fit ≡ true → (r : Refusal) (i : ℕ) → planAmong n w s .outcome ≡ Faulty r i → Refused r i ≡ sheetAnswerAmong n w fit s next
+    pub fault-refused : knownWidth w ≡ true → fit ≡ true → (r : Refusal) (i : ℕ) → planAmong n w s .outcome ≡ Faulty r i
+        → Refused r i ≡ sheetAnswerAmong n w fit s next
     unfolding sheetAnswerAmong
     fault-refused h k r i e = rw (h, k, e)
 
