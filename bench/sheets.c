@@ -30,7 +30,7 @@ static void run_again(void *context, unsigned long rounds)
                     runner->sheet, runner->sheet_len);
 }
 
-/* Products on either side, at changing places among the first few. */
+/* Products on either side, at changing places among the first so many. */
 static size_t make_products_over(size_t places, uint8_t *sheet, size_t commands)
 {
     for (size_t i = 0; i < commands; i++) {
@@ -152,7 +152,7 @@ void bench_sheets(void)
     printf("C. sheets of 4,096 bytes, products over %d and over %d places: million units/s, "
            "time ratios\n",
            FEW_PLACES, EDONR_PLACES);
-    printf("                      over %d places               over %d places               "
+    printf("                      over %d places              over %d places              "
            "time of %d to %d\n",
            FEW_PLACES, EDONR_PLACES, EDONR_PLACES, FEW_PLACES);
     printf("                      archive  reference  ratio  archive  reference  ratio  "

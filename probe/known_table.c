@@ -47,9 +47,9 @@ _Static_assert(sizeof(VECTORS_32) == 2 * EDONR_PLACES * 32 + 1 &&
                "there is a vector for every place");
 
 /* Every kind of command, and no vector left alone. */
-#define COMMANDS_WITHOUT_K "010700" "020601" "030502" "040403" "050007" "0601"
-#define SHEET_32 COMMANDS_WITHOUT_K "0702" BYTES_512 "0803" BYTES_544
-#define SHEET_64 COMMANDS_WITHOUT_K "0702" BYTES_512 BYTES_544 "0803" BYTES_576 BYTES_608
+#define COMMANDS_WITHOUT_K "010007" "020601" "030205" "040403" "050307" "0605"
+#define SHEET_32 COMMANDS_WITHOUT_K "0701" BYTES_512 "0804" BYTES_544
+#define SHEET_64 COMMANDS_WITHOUT_K "0701" BYTES_512 BYTES_544 "0804" BYTES_576 BYTES_608
 
 #define PRODUCT_32 "29a627589b51e3d3e72430496d17c1a7031f4edbe9d2a24e0ed41ad74229c728"
 #define PRODUCT_64                                                                         \
@@ -64,31 +64,31 @@ _Static_assert(sizeof(VECTORS_32) == 2 * EDONR_PLACES * 32 + 1 &&
     "024c9a05522e751c51c727edd423520f6e1e1afecf2b8f2db5492447d955b296"                     \
     "8a5f0084cdb9ebcee476a2138d9bb26e4ce599e69824c6add6c6a064cd39ede3"
 #define RUN_32                                                                             \
-    "365800b34d0914b6cecaa945e4feb57ccfe9995621c3f8b2ebf805cefc6ff4a2"                     \
-    "3a1384c53cab16c9be9a822ce132451f0c9fcb53eaa27e746a89391b9b74a851"                     \
-    "58581d0f631de77ec64348cc9b4f2daac044c2b07a9883cf216cb59325d53d0c"                     \
-    "5baa30cc2394afbee747090a9f32ad7a9829acfd797b51bb2556859c3bec668b"                     \
-    "1bc0588c9357481c1bd22e3ce5457c0acc6bb863571928f3c7e59ba0e5cabd45"                     \
-    "ec94a49ced7bd0f9c39e4327259b7b742194b72728b0b2f5d7f5e85aa0164598"                     \
+    "f1be17e7b5c3a228abb7af8168c015a13730e40043848b3678c886fea937b6e0"                     \
+    "f09f3ef9ac025af77a7ec25019facace7c0cbd16f51c9783e8ce64426e061d4b"                     \
+    "ceeb14b0c44d5202a16a16c41f2ecf12934078fabdaaf059a90fad349e80e6b7"                     \
+    "16635cb4ab9df0a272384d0f7a1d52ee4f45f372ee5269f12502e4a8de357d37"                     \
+    "137005f4614694a7b644a8c9ea5e077068040f573a39003472d7f5ee619fae89"                     \
+    "d66a49544c63d27bd9f1f5ed6a2fca0d928a03a90df125182b6001dbd79e0b10"                     \
     "a0d924f1a0a076465a50048bf7a01d9707c8173bdd3089e8921793cf7e4e2836"                     \
-    "afcd1d7b39a820e2f465b9a16a9e786e4f450980185dc406ec814c72a8b88bf8"
+    "7bdbbbe03fa021862fa93a9855751f8e194dcc00160f4eb5ab801d97973fbb84"
 #define RUN_64                                                                             \
-    "8dbf428f5a668098f794ad1e905772f6f669df05fc49a4e24f6a420a8fea51d0"                     \
-    "1113686e6eaa953779ced825fc3a9b8eeeb5aaf403cbd90f4f8b4bab52e597fd"                     \
-    "ab801d97973fbb84194dcc00160f4eb52fa93a9855751f8e7bdbbbe03fa02186"                     \
-    "f6de5b05e026d3c2093db13cddec7e65a6b08c368c48b8f3c38ac9419078e53e"                     \
-    "567da1ea9b36e0d2083d396ec97a622d8433d65b1a624ff64dc749f144eea213"                     \
-    "8455400a563331424651f912ed7eb83e69d08194e41203b0f6d643b8d522744b"                     \
-    "6b80cc661a8d9b523f4697cb95bd7c3cd7c06ff80a3261e4acfc3b3faaca5d84"                     \
-    "2839fd9b6b2e543ef2b5e9c1cd9fa9689efc3326702e326baec005fb7addeb9b"                     \
-    "4c8a6b609a0cb529e8d4df7bf5654a6a5d8abdcb7678e6660f5f588347326af0"                     \
-    "2c143b80340f3dc73c96e4535cd9ceb0e95b6c7cc3f4b000e07cd793b8dba937"                     \
-    "2784f843e89f304c8df40113614f10904efb3ba98639fc02cf3d45562c72692b"                     \
-    "b67496f82ce0b40ac383d2b95b22c9d9840ad4d780319d2fceff376fb62a3441"                     \
+    "e5843bc43906de97b4cf0f9e70854c7a3c8e5717e8ba333823c1db9207073209"                     \
+    "a5c4f097f0ead180e72670f3b8887b761bd872594f7504429b16a1c6005643e4"                     \
+    "e142171f166fca563ecf43d8bda75a33aadf6662868e8a9c6d7ce4f7ae82a11e"                     \
+    "b392a6df62b0580579272b3f43b3fdefb67910164a157eff059ca8fd366bd01b"                     \
+    "ccc6d93768a56bf307b964539628814583878b8a2d2de09e3b2253a5c022d950"                     \
+    "4b59588b17fe9789693a88abe89f956d044f9326d83b3cab0bd18beb1be9a668"                     \
+    "c10e9edd450326309896bb82588a44cf5676c8cbdc78a5f48f3c7ba1d9aedebf"                     \
+    "7b5d5c1d2d4079ed70f1bb1cab70f0551d8fa82949a3003efb18bbb837b255e2"                     \
+    "063658f43a6ba1d2951d3da21046f7f5809d09681120f8fbcaac8b0d718c0d48"                     \
+    "da66aca62ad5df9224dd50aa942b9c7e1c81d7c07f519f51146254d0bfd2e0a6"                     \
+    "49ae3a7476d40e69ad793e76b1ec843e371e690a6365eeec38f4eb5216c306cc"                     \
+    "37e91970a915c012a87822300b93dc07ce75819196704f132a9292a75444eb84"                     \
     "fe11f8500ad701310ed2f23b55498c5bae4f632c79ea22dcb96d44add03b66d7"                     \
     "0c733e412fb3cb2fb07739a0ee3429fb5b6cc6537f120c06b257b419b1afd6d5"                     \
-    "afcd1d7b39a820e2f465b9a16a9e786e4f450980185dc406ec814c72a8b88bf8"                     \
-    "9b74a8516a89391beaa27e740c9fcb53e132451fbe9a822c3cab16c93a1384c5"
+    "697240f5d4017cdd7b4f4cdbf1825e9300332392bc2eb86910d5e17db59ed240"                     \
+    "16635cb4ab9df0a272384d0f7a1d52ee4f45f372ee5269f12502e4a8de357d37"
 
 const struct known known_table[KNOWN_ANSWERS] = {
     {"product, width 32", KNOWN_PRODUCT, 32, V0_32, V1_32, PRODUCT_32, 32},

@@ -133,8 +133,8 @@ static void compare_cut_commands(uint32_t width)
 static void compare_places(uint32_t width)
 {
     enum { N = EDONR_PLACES };
-    static const uint8_t places[] = {0,         1,     N - 2, N - 1, N,       N + 1,
-                                     2 * N - 1, 2 * N, 127,   128,   256 - N, 255};
+    static const uint8_t places[] = {0,     1,         3,     4,   N - 2, N - 1,   N,
+                                     N + 1, 2 * N - 1, 2 * N, 127, 128,   256 - N, 255};
     enum { COUNT = sizeof places };
     check_group("places, width %" PRIu32, width);
     for (unsigned n = 0; n < 8 * COUNT * COUNT; n++) {
@@ -165,7 +165,7 @@ static void compare_refusal_order(void)
                                          RUN_CALL_VECTORS};
     static const size_t sheet_lens[] = {0,  1,  2,  3,    4,    5,   6,
                                         34, 66, 67, 4096, 4097, 8192};
-    static const uint8_t codes[] = {0, 1, 5, 6, 7, 9};
+    static const uint8_t codes[] = {0, 1, 5, 6, 7, 8, 9};
     enum { N = 13 };
     static uint8_t sheet[RUN_CALL_SHEET];
     check_group("refusals in every combination");

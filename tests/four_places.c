@@ -1,7 +1,7 @@
 /*
- * four_places [file]: sheets that were accepted when a sheet worked on four vectors mean
- * the same on V0 to V3 and leave V4 to V7. Runs that the kit made then, from the file,
- * whose head gives its form; and random sheets against the reference with four places.
+ * four_places [file]: sheets that are accepted among four places mean the same among eight:
+ * what they do to V0 to V3, and V4 to V7 are left. Held against the reference with four
+ * places, and against the runs among four places in the file, whose head gives its form.
  */
 #include <inttypes.h>
 #include <stdio.h>
@@ -12,17 +12,17 @@
 #include "harness/random.h"
 #include "harness/run_call.h"
 #include "harness/sheet_maker.h"
+#include "harness/vector_file.h"
 #include "reference/answer.h"
 #include "reference/division.h"
 #include "reference/sheet.h"
 
 enum {
     CASES = 2,
-    FORMER_PLACES = 4,
-    MOST_FORMER = FORMER_PLACES * 64,
-    MOST_CASE_SHEET = 256,
-    MOST_LINE = 128,
-    OTHERS = 100,
+    FEW_PLACES = 4,
+    FEW_64 = FEW_PLACES * 64, /* what four vectors take at most, in bytes */
+    MOST_CASE_BYTES = 256,
+    FILLINGS = 100, /* of V4 to V7, for each case and direction */
     RANDOM_SHEETS = 5000
 };
 
@@ -30,75 +30,63 @@ static run_function *const former_runs[DIRECTIONS] = {reference_former_forward,
                                                       reference_former_backward};
 
 struct bytes {
-    uint8_t at[MOST_CASE_SHEET];
+    uint8_t at[MOST_CASE_BYTES];
     size_t len;
 };
 
-struct former_case {
+struct recorded_run {
     uint32_t width;
     struct bytes vectors, sheet, after;
     uint64_t units;
 };
 
-static void stop(const char *why)
-{
-    fprintf(stderr, "four_places: %s\n", why);
-    exit(2);
-}
+struct cases {
+    struct recorded_run at[CASES];
+    size_t count;
+};
 
 static void add_bytes(struct bytes *bytes, const char *text)
 {
     for (; *text != '\0'; text += 2) {
-        unsigned byte;
-        if (bytes->len == sizeof bytes->at || sscanf(text, "%2x", &byte) != 1 ||
-            text[1] == '\0')
-            stop("too many bytes, or not two digits a byte");
-        bytes->at[bytes->len++] = (uint8_t)byte;
+        if (bytes->len == MOST_CASE_BYTES)
+            vector_file_stop("too many bytes");
+        bytes->at[bytes->len++] =
+            (uint8_t)(vector_file_digit(text[0]) << 4 | vector_file_digit(text[1]));
     }
 }
 
-/* Adds one line, a keyword and its value, to the cases read so far. */
-static void add_line(struct former_case *cases, size_t *count, char *line)
+static void add_line(void *context, const char *keyword, const char *value)
 {
-    char *value = strchr(line, ' ');
-    if (value == NULL)
-        stop("a line without a value");
-    *value++ = '\0';
-    if (strcmp(line, "width") == 0) {
-        if (*count == CASES)
-            stop("too many cases");
-        cases[(*count)++].width = (uint32_t)strtoul(value, NULL, 10);
+    struct cases *cases = context;
+    if (strcmp(keyword, "width") == 0) {
+        if (cases->count == CASES)
+            vector_file_stop("too many cases");
+        cases->at[cases->count++].width = (uint32_t)strtoul(value, NULL, 10);
         return;
     }
-    if (*count == 0)
-        stop("a case does not begin with its width");
-    struct former_case *last = &cases[*count - 1];
-    if (strcmp(line, "vectors") == 0)
-        add_bytes(&last->vectors, value);
-    else if (strcmp(line, "sheet") == 0)
-        add_bytes(&last->sheet, value);
-    else if (strcmp(line, "after") == 0)
-        add_bytes(&last->after, value);
-    else if (strcmp(line, "units") == 0)
-        last->units = strtoull(value, NULL, 10);
+    if (cases->count == 0)
+        vector_file_stop("a case does not begin with its width");
+    struct recorded_run *run = &cases->at[cases->count - 1];
+    if (strcmp(keyword, "vectors") == 0)
+        add_bytes(&run->vectors, value);
+    else if (strcmp(keyword, "sheet") == 0)
+        add_bytes(&run->sheet, value);
+    else if (strcmp(keyword, "after") == 0)
+        add_bytes(&run->after, value);
+    else if (strcmp(keyword, "units") == 0)
+        run->units = strtoull(value, NULL, 10);
     else
-        stop("an unknown keyword");
+        vector_file_stop("an unknown keyword");
 }
 
-static size_t read_cases(const char *path, struct former_case *cases)
+/* Ends the program at a case that is not whole. */
+static void look_at_case(const struct recorded_run *run)
 {
-    char line[MOST_LINE];
-    size_t count = 0;
-    FILE *file = fopen(path, "r");
-    if (file == NULL)
-        stop("the file cannot be opened");
-    while (fgets(line, sizeof line, file) != NULL) {
-        line[strcspn(line, "\r\n")] = '\0';
-        if (line[0] != '\0' && line[0] != '#')
-            add_line(cases, &count, line);
-    }
-    fclose(file);
-    return count;
+    size_t len = FEW_PLACES * (size_t)run->width;
+    if (run->width != 32 && run->width != 64)
+        vector_file_stop("a width is neither 32 nor 64");
+    if (run->vectors.len != len || run->after.len != len)
+        vector_file_stop("a case has not four vectors before and after");
 }
 
 /* A run over eight vectors, of which the first four are given, has to answer so and leave
@@ -106,8 +94,8 @@ static size_t read_cases(const char *path, struct former_case *cases)
 static void check_run_over_eight(const struct run *run, const uint8_t *first,
                                  uint64_t answer, const uint8_t *wanted)
 {
-    uint8_t vectors[2 * MOST_FORMER], others[MOST_FORMER];
-    size_t half = FORMER_PLACES * (size_t)run->width;
+    uint8_t vectors[2 * FEW_64], others[FEW_64];
+    size_t half = FEW_PLACES * (size_t)run->width;
     random_pattern(others, half);
     memcpy(vectors, first, half);
     memcpy(vectors + half, others, half);
@@ -118,18 +106,17 @@ static void check_run_over_eight(const struct run *run, const uint8_t *first,
           run->width);
 }
 
-static void check_cases(const struct former_case *cases, size_t count)
+static void check_case(const struct recorded_run *recorded)
 {
-    check_group("runs that were made over four vectors");
-    check(count == CASES, "%zu cases", count);
-    for (unsigned i = 0; i < OTHERS * count; i++) {
-        const struct former_case *c = &cases[i % count];
-        check(c->vectors.len == FORMER_PLACES * c->width && c->after.len == c->vectors.len,
-              "vectors of %zu bytes, and of %zu", c->vectors.len, c->after.len);
-        struct run run = {FORWARD, c->width, c->sheet.at, c->sheet.len};
-        check_run_over_eight(&run, c->vectors.at, c->units, c->after.at);
+    struct run run = {FORWARD, recorded->width, recorded->sheet.at, recorded->sheet.len};
+    look_at_case(recorded);
+    for (unsigned i = 0; i < FILLINGS; i++) {
+        run.direction = FORWARD;
+        check_run_over_eight(&run, recorded->vectors.at, recorded->units,
+                             recorded->after.at);
         run.direction = BACKWARD;
-        check_run_over_eight(&run, c->after.at, c->units, c->vectors.at);
+        check_run_over_eight(&run, recorded->after.at, recorded->units,
+                             recorded->vectors.at);
     }
 }
 
@@ -140,11 +127,11 @@ static void lower_places(struct sheet *sheet)
         uint8_t *command = sheet->bytes + sheet->offsets[i];
         if (random_below(1000) == 0)
             continue;
-        command[1] %= FORMER_PLACES;
+        command[1] %= FEW_PLACES;
         if (command[0] <= 5)
-            command[2] %= FORMER_PLACES;
+            command[2] %= FEW_PLACES;
         if (command[0] <= 5 && command[1] == command[2])
-            command[2] = (uint8_t)((command[1] + 1) % FORMER_PLACES);
+            command[2] = (uint8_t)((command[1] + 1) % FEW_PLACES);
     }
 }
 
@@ -152,8 +139,8 @@ static void lower_places(struct sheet *sheet)
 static bool check_former(enum direction direction, uint32_t width,
                          const struct sheet *sheet)
 {
-    uint8_t first[MOST_FORMER], after[MOST_FORMER];
-    size_t half = FORMER_PLACES * (size_t)width;
+    uint8_t first[FEW_64], after[FEW_64];
+    size_t half = FEW_PLACES * (size_t)width;
     struct run run = {direction, width, sheet->bytes, sheet->len};
     random_pattern(first, half);
     memcpy(after, first, half);
@@ -186,11 +173,15 @@ static void compare_random(uint32_t width)
 
 int main(int argc, char **argv)
 {
-    static struct former_case cases[CASES];
+    static struct cases cases;
     int argument = check_program("four_places", argc, argv);
     const char *path = argument < argc ? argv[argument] : "tests/vectors/four_places.txt";
     reference_init();
-    check_cases(cases, read_cases(path, cases));
+    vector_file_read(path, add_line, &cases);
+    check_group("runs among four places, as recorded");
+    check(cases.count == CASES, "%zu cases", cases.count);
+    for (size_t i = 0; i < cases.count; i++)
+        check_case(&cases.at[i]);
     compare_random(32);
     compare_random(64);
     return check_finish();

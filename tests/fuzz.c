@@ -113,6 +113,7 @@ static bool fuzz_run(enum direction direction)
     static struct sheet sheet;
     uint8_t vectors[RUN_CALL_VECTORS];
     uint32_t width = fuzz_width();
+    /* Half of the vectors is a length that a caller might think enough. */
     uint64_t places = random_below(32) == 0 ? EDONR_PLACES / 2 : EDONR_PLACES;
     size_t vectors_len = (size_t)fuzz_number(places * width);
     fuzz_sheet(width, &sheet);

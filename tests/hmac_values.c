@@ -11,10 +11,11 @@
 
 #include "edonr.h"
 #include "harness/check.h"
+#include "harness/vector_file.h"
 #include "reference/digest.h"
 #include "reference/rows.h"
 
-enum { VECTORS = 16, MOST_KEY = 256, MOST_MESSAGE = 256, MOST_MAC = 64, MOST_LINE = 512 };
+enum { VECTORS = 16, MOST_KEY = 256, MOST_MESSAGE = 256, MOST_MAC = 64 };
 
 typedef uint64_t digest_call(uint32_t size, const uint8_t *message, size_t message_len,
                              uint8_t *out, size_t out_len);
@@ -27,34 +28,19 @@ struct vector {
     size_t key_len, message_len, mac_len;
 };
 
-static void stop(const char *why)
-{
-    fprintf(stderr, "hmac_values: %s\n", why);
-    exit(2);
-}
-
-static uint8_t hex_digit(char digit)
-{
-    static const char digits[] = "0123456789ABCDEF";
-    const char *found = digit == '\0' ? NULL : strchr(digits, digit);
-    if (found == NULL)
-        stop("not a hexadecimal digit");
-    return (uint8_t)(found - digits);
-}
-
 static void add_key(struct vector *v, const char *text)
 {
     for (; *text != '\0'; text += 2) {
         if (v->key_len == MOST_KEY)
-            stop("a key is too long");
-        v->key[v->key_len++] = (uint8_t)(hex_digit(text[0]) << 4 | hex_digit(text[1]));
+            vector_file_stop("a key is too long");
+        v->key[v->key_len++] = (uint8_t)(vector_file_digit(text[0]) << 4 | vector_file_digit(text[1]));
     }
 }
 
 static void add_message(struct vector *v, const char *text)
 {
     if (strlen(text) > MOST_MESSAGE - v->message_len)
-        stop("a message is too long");
+        vector_file_stop("a message is too long");
     memcpy(v->message + v->message_len, text, strlen(text));
     v->message_len += strlen(text);
 }
@@ -67,62 +53,46 @@ static void add_mac(struct vector *v, const char *text)
             continue;
         }
         if (v->mac_len == MOST_MAC)
-            stop("a mac is too long");
+            vector_file_stop("a mac is too long");
         for (unsigned i = 0; i < 2; i++, text++) {
             bool shown = *text != '.';
             unsigned shift = i == 0 ? 4 : 0;
             v->shown[v->mac_len] |= (uint8_t)((shown ? 0xF : 0) << shift);
-            v->mac[v->mac_len] |= (uint8_t)((shown ? hex_digit(*text) : 0) << shift);
+            v->mac[v->mac_len] |= (uint8_t)((shown ? vector_file_digit(*text) : 0) << shift);
         }
         v->mac_len++;
     }
 }
 
-/* Adds one line, a keyword and its value, to the vectors read so far. */
-static void add_line(struct vector *vectors, size_t *count, char *line)
+struct vectors {
+    struct vector at[VECTORS];
+    size_t count;
+};
+
+static void add_line(void *context, const char *keyword, const char *value)
 {
-    char *value = strchr(line, ' ');
-    if (value == NULL)
-        stop("a line without a value");
-    *value++ = '\0';
-    if (strcmp(line, "size") == 0) {
-        if (*count == VECTORS)
-            stop("too many cases");
-        vectors[*count] = (struct vector){.size = (uint32_t)strtoul(value, NULL, 10)};
-        ++*count;
+    struct vectors *vectors = context;
+    if (strcmp(keyword, "size") == 0) {
+        if (vectors->count == VECTORS)
+            vector_file_stop("too many cases");
+        vectors->at[vectors->count++].size = (uint32_t)strtoul(value, NULL, 10);
         return;
     }
-    if (*count == 0)
-        stop("a case does not begin with its size");
-    struct vector *v = &vectors[*count - 1];
-    if (strcmp(line, "key_length") == 0)
+    if (vectors->count == 0)
+        vector_file_stop("a case does not begin with its size");
+    struct vector *v = &vectors->at[vectors->count - 1];
+    if (strcmp(keyword, "key_length") == 0)
         v->printed_key_len = strtoul(value, NULL, 10);
-    else if (strcmp(line, "message_length") == 0)
+    else if (strcmp(keyword, "message_length") == 0)
         v->printed_message_len = strtoul(value, NULL, 10);
-    else if (strcmp(line, "key") == 0)
+    else if (strcmp(keyword, "key") == 0)
         add_key(v, value);
-    else if (strcmp(line, "message") == 0)
+    else if (strcmp(keyword, "message") == 0)
         add_message(v, value);
-    else if (strcmp(line, "mac") == 0)
+    else if (strcmp(keyword, "mac") == 0)
         add_mac(v, value);
     else
-        stop("an unknown keyword");
-}
-
-static size_t read_vectors(const char *path, struct vector *vectors)
-{
-    char line[MOST_LINE];
-    size_t count = 0;
-    FILE *file = fopen(path, "r");
-    if (file == NULL)
-        stop("the file cannot be opened");
-    while (fgets(line, sizeof line, file) != NULL) {
-        line[strcspn(line, "\r\n")] = '\0';
-        if (line[0] != '\0' && line[0] != '#')
-            add_line(vectors, &count, line);
-    }
-    fclose(file);
-    return count;
+        vector_file_stop("an unknown keyword");
 }
 
 /* One digest of FIPS 198-1: of the key's block, mixed with a pad byte, and then the text.
@@ -214,15 +184,15 @@ static void check_readings(const struct vector *vectors, size_t count)
 
 int main(int argc, char **argv)
 {
-    static struct vector vectors[VECTORS];
+    static struct vectors vectors;
     int argument = check_program("hmac_values", argc, argv);
     const char *path = argument < argc ? argv[argument] : "tests/vectors/hmac.txt";
-    size_t count = read_vectors(path, vectors);
-    check_file(vectors, count);
+    vector_file_read(path, add_line, &vectors);
+    check_file(vectors.at, vectors.count);
     check_group("printed values from the archive");
-    for (size_t i = 0; i < count; i++)
-        check(reproduces(edonr_digest, &vectors[i]), "case %zu, size %u", i,
-              (unsigned)vectors[i].size);
-    check_readings(vectors, count);
+    for (size_t i = 0; i < vectors.count; i++)
+        check(reproduces(edonr_digest, &vectors.at[i]), "case %zu, size %u", i,
+              (unsigned)vectors.at[i].size);
+    check_readings(vectors.at, vectors.count);
     return check_finish();
 }

@@ -113,17 +113,33 @@ static void check_vectors(const struct known *known)
               "%s: highest bits from byte %zu on", known->name, at);
 }
 
-/* Every kind of command, and no vector left alone. */
+/* Every kind of command, with K from the numbers behind those of the vectors. */
 static void check_sheet(const struct known *known)
 {
-    struct known_bytes before = known_bytes(known->first);
     struct known_bytes sheet = known_bytes(known->second);
+    uint8_t numbers[KNOWN_MOST_BYTES + 2 * 64];
+    size_t width = known->parameter, len, k = KNOWN_MOST_BYTES;
+    unsigned kinds = 0;
+    struct rng rng = {0};
+    rng_fill(&rng, numbers, sizeof numbers);
+    for (size_t at = 0; at < sheet.len; at += len) {
+        len = command_len(known->parameter, sheet.at[at]);
+        kinds |= 1u << sheet.at[at];
+        if (len > 3) {
+            check(memcmp(sheet.at + at + 2, numbers + k, width) == 0,
+                  "%s: K at byte %zu of the sheet", known->name, at + 2);
+            k += width;
+        }
+    }
+    check(kinds == 0x1FE, "%s: kinds %x", known->name, kinds);
+}
+
+/* No vector is left alone. */
+static void check_changes(const struct known *known)
+{
+    struct known_bytes before = known_bytes(known->first);
     struct known_bytes after = known_bytes(known->result);
     size_t width = known->parameter;
-    unsigned kinds = 0;
-    for (size_t at = 0; at < sheet.len; at += command_len(known->parameter, sheet.at[at]))
-        kinds |= 1u << sheet.at[at];
-    check(kinds == 0x1FE, "%s: kinds %x", known->name, kinds);
     for (size_t at = 0; at < before.len; at += width)
         check(memcmp(before.at + at, after.at + at, width) != 0,
               "%s: the vector at byte %zu is left alone", known->name, at);
@@ -139,6 +155,7 @@ int main(int argc, char **argv)
         if (known_table[i].call == KNOWN_FORWARD) {
             check_vectors(&known_table[i]);
             check_sheet(&known_table[i]);
+            check_changes(&known_table[i]);
         }
     }
     return check_finish();

@@ -1,6 +1,7 @@
 /*
  * What the probe makes from a seed: vectors for all eight places, as its header says, and a
- * sheet that takes operands from all of them and changes each.
+ * sheet that takes operands from all of them and changes each. What a run of the sheet
+ * answers and leaves is worked out by the reference.
  */
 #include <inttypes.h>
 #include <string.h>
@@ -9,6 +10,8 @@
 #include "harness/check.h"
 #include "harness/rng.h"
 #include "harness/sheet_maker.h"
+#include "reference/division.h"
+#include "reference/sheet.h"
 
 enum { PLACES = 8, SEEDS = 500 };
 
@@ -31,26 +34,33 @@ static struct uses count_uses(const struct load *load)
     return uses;
 }
 
-static void check_load(const struct load *load)
+static void check_vectors(const struct load *load)
 {
-    uint8_t numbers[PLACES * 64], after[PLACES * 64];
+    uint8_t numbers[PLACES * 64];
     struct rng rng = {load->seed};
+    size_t len = PLACES * (size_t)load->width;
+    rng_fill(&rng, numbers, len);
+    check(load->vectors_len == len && memcmp(load->vectors, numbers, len) == 0,
+          "seed %" PRIu64 ": the vectors", load->seed);
+}
+
+static void check_sheet(const struct load *load)
+{
+    uint8_t after[PLACES * 64];
     struct uses uses = count_uses(load);
     size_t width = load->width;
-    rng_fill(&rng, numbers, PLACES * width);
     memcpy(after, load->vectors, PLACES * width);
-    uint64_t answer = edonr_run_forward(load->width, after, PLACES * width, load->sheet,
-                                        load->sheet_len);
-    check(load->vectors_len == PLACES * width &&
-              memcmp(load->vectors, numbers, PLACES * width) == 0,
-          "seed %" PRIu64 ": the vectors", load->seed);
-    check(answer == load->units && edonr_refusal(answer) == 0,
-          "seed %" PRIu64 ": the sheet answers %" PRIx64, load->seed, answer);
-    for (unsigned i = 0; i < PLACES; i++)
-        check(uses.d[i] > 0 && uses.s[i] > 0 &&
-                  memcmp(after + i * width, load->vectors + i * width, width) != 0,
+    uint64_t answer = reference_run_forward(load->width, after, PLACES * width, load->sheet,
+                                            load->sheet_len);
+    check(answer == load->units, "seed %" PRIu64 ": the sheet answers %" PRIx64, load->seed,
+          answer);
+    for (unsigned i = 0; i < PLACES; i++) {
+        check(uses.d[i] > 0 && uses.s[i] > 0,
               "seed %" PRIu64 ": V%u is d in %u commands and s in %u", load->seed, i,
               uses.d[i], uses.s[i]);
+        check(memcmp(after + i * width, load->vectors + i * width, width) != 0,
+              "seed %" PRIu64 ": V%u is left alone", load->seed, i);
+    }
 }
 
 static void check_seeds(uint32_t width)
@@ -61,14 +71,17 @@ static void check_seeds(uint32_t width)
         struct options options = {.width = width, .seed = seed, .threads = 1};
         bool made = load_prepare(&options, &load);
         check(made, "seed %" PRIu64 ": no load", seed);
-        if (made)
-            check_load(&load);
+        if (made) {
+            check_vectors(&load);
+            check_sheet(&load);
+        }
     }
 }
 
 int main(int argc, char **argv)
 {
     check_program("probe_load", argc, argv);
+    reference_init();
     check_seeds(32);
     check_seeds(64);
     return check_finish();

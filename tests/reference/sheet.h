@@ -14,7 +14,8 @@ uint64_t reference_run_forward(uint32_t width, uint8_t *vectors, size_t vectors_
 uint64_t reference_run_backward(uint32_t width, uint8_t *vectors, size_t vectors_len,
                                 const uint8_t *sheet, size_t sheet_len);
 
-/* The same as it was when a sheet worked on four vectors, V0 to V3, lent as 4 * w bytes. */
+/* The same over four vectors, V0 to V3, lent as 4 * w bytes: document 02, Paper 8, holds runs
+   over eight against these. */
 uint64_t reference_former_forward(uint32_t width, uint8_t *vectors, size_t vectors_len,
                                   const uint8_t *sheet, size_t sheet_len);
 

@@ -1,7 +1,7 @@
 /*
  * Runs of a sheet over PLACES vectors, which is defined before this is included: by sheet.c
- * as 8, and by former_sheet.c as 4. The number is a constant to the compiler, as it is in the
- * archive.
+ * as 8, and by former_sheet.c as 4. The number is a constant to the compiler, as it is in
+ * the archive.
  */
 #include <stdbool.h>
 #include <stddef.h>

@@ -33,10 +33,11 @@ enum mutant {
     run_offset_by_11_bits,
     run_refused_writes,
     run_places_refused_alike,
-    run_high_places_refused,
+    run_upper_places_refused,
     run_equal_places_first,
     run_takes_four_vectors,
-    run_leaves_high_places,
+    run_leaves_upper_places,
+    run_of_lower_places_writes_v7,
     sheet_length_by_32_bits,
     open_refused_writes,
     open_keeps_waiting,
@@ -198,9 +199,9 @@ static uint64_t other_refusal(uint64_t answer, uint32_t width, size_t vectors_le
     return edonr_refused(refusal, offset);
 }
 
-/* Where the first command with a place above 3 begins, in a sheet that is sound; its length
-   where there is none. */
-static size_t first_high_place(uint32_t width, const uint8_t *sheet, size_t sheet_len)
+/* Where the first command with a place above 3 begins, in a sheet that is sound; where there
+   is none, the sheet's length. */
+static size_t first_upper_place(uint32_t width, const uint8_t *sheet, size_t sheet_len)
 {
     size_t at = 0;
     while (at < sheet_len && sheet[at + 1] <= 3 && (sheet[at] > 5 || sheet[at + 2] <= 3))
@@ -219,9 +220,9 @@ static uint64_t run(run_function *real, bool backward, uint32_t width, uint8_t *
             vectors[0] ^= 1;
         return other_refusal(answer, width, vectors_len, sheet);
     }
-    size_t high = first_high_place(width, sheet, sheet_len);
-    if (IS(run_high_places_refused) && high < sheet_len)
-        return edonr_refused(EDONR_REFUSED_PLACE, (uint32_t)high);
+    size_t upper = first_upper_place(width, sheet, sheet_len);
+    if (IS(run_upper_places_refused) && upper < sheet_len)
+        return edonr_refused(EDONR_REFUSED_PLACE, (uint32_t)upper);
     uint64_t commands = count_commands(width, sheet, sheet_len, 0);
     answer = other_units(backward, width, sheet, sheet_len, answer);
     if (idles(backward, commands))
@@ -231,8 +232,10 @@ static uint64_t run(run_function *real, bool backward, uint32_t width, uint8_t *
     uint8_t kept[EDONR_PLACES * 64];
     memcpy(kept, vectors, vectors_len);
     real(width, vectors, vectors_len, sheet, sheet_len);
-    if (IS(run_leaves_high_places))
+    if (IS(run_leaves_upper_places))
         memcpy(vectors + vectors_len / 2, kept + vectors_len / 2, vectors_len / 2);
+    if (IS(run_of_lower_places_writes_v7) && upper == sheet_len)
+        vectors[vectors_len - 1] ^= 1;
     return answer;
 }
 

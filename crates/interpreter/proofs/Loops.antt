@@ -10,7 +10,7 @@ use Rattle.sheet.specs.declared.Command.{Command}
 use Rattle.sheet.specs.declared.Decoded.{Decoded}
 use Rattle.sheet.specs.declared.Read.{Read}
 use Rattle.sheet.specs.declared.Read.the-variants.{Got, Fault, End}
-use Rattle.sheet.specs.Read.{readAt}
+use Rattle.sheet.specs.Read.{placeCount, readAt}
 use Rattle.sheet.specs.Sheet.{scanFrom}
 use Rattle.sheet.specs.Effect.{effect, undone}
 use Rattle.sheet.specs.Run.{Forward, Backward, stepWith, step, steps}
@@ -35,13 +35,13 @@ module _ (w : ℕ) (s : List ℕ) (i : ℕ) (v : List (List ℕ)) {end : List (L
         → steps Forward w s (scanFrom (length s) w s (d .next) .offsets) u ≡ end
     forward-more d e h =
         let rest = scanFrom (length s) w s (d .next) .offsets in
-        ap (steps Forward w s rest) (h ∙ ap (λ (r : Read). stepWith Forward w s r v) (sym e)) ∙ (rw (rest-got w s i d e) at now)
+        ap (steps Forward w s rest) (h ∙ ap (λ (r : Read). stepWith Forward w s r v) (sym e)) ∙ (rw (rest-got placeCount w s i d e) at now)
 
     pub forward-fault : (r : Refusal) → readAt w s i ≡ Fault r → v ≡ end
-    forward-fault r e = rw (rest-fault w s i r e) at now
+    forward-fault r e = rw (rest-fault placeCount w s i r e) at now
 
     pub forward-end : readAt w s i ≡ End → v ≡ end
-    forward-end e = rw (rest-end w s i e) at now
+    forward-end e = rw (rest-end placeCount w s i e) at now
 
   -- with i offsets left, of which j is the last
   pub backward-more : (l : List ℕ) (j : ℕ) → i ≡ suc j → i ≤ length l → steps Backward w s (reverse (take i l)) v ≡ end → {u : List (List ℕ)} {x : ℕ}

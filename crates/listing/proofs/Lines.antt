@@ -11,7 +11,7 @@ use Rattle.sheet.specs.declared.Decoded.{Decoded}
 use Rattle.sheet.specs.declared.Read.{Read}
 use Rattle.sheet.specs.declared.Read.the-variants.{Got, Fault, End}
 use Rattle.sheet.specs.declared.Summary.the-variants.{Whole, Faulty}
-use Rattle.sheet.specs.Read.{readAt}
+use Rattle.sheet.specs.Read.{placeCount, readAt}
 use Rattle.sheet.specs.Sheet.{Plan, scanFrom, planOf}
 use Rattle.sheet.specs.Work.{summary}
 use Rattle.sheet.proofs.Rest.{rest-got, rest-fault, rest-end}
@@ -27,7 +27,7 @@ rest w s i = lines w s (scanFrom (length s) w s i .offsets)
 module _ (w : ℕ) (s l₀ l : List ℕ) (next i : ℕ) (now : sets l next (rest w s i) ≡ sets l₀ 0 (rest w s 0)) (far : next + length (rest w s i) ≡ length (rest w s 0)) where
   module _ (d : Decoded) (e : readAt w s i ≡ Got d) where
     rest-more : rest w s i ≡ line i (d .command) ++ rest w s (d .next)
-    rest-more = ap (λ (p : Plan). lines w s (p .offsets)) (rest-got w s i d e) ∙ ap (λ (r : Read). lineOf i r ++ rest w s (d .next)) e
+    rest-more = ap (λ (p : Plan). lines w s (p .offsets)) (rest-got placeCount w s i d e) ∙ ap (λ (r : Read). lineOf i r ++ rest w s (d .next)) e
 
     pub lines-more : {m : List ℕ} {k : ℕ} → Pushed l next (line i (d .command)) m k
         → (sets m k (rest w s (d .next)) ≡ sets l₀ 0 (rest w s 0)) × (k + length (rest w s (d .next)) ≡ length (rest w s 0))
@@ -44,10 +44,10 @@ module _ (w : ℕ) (s l₀ l : List ℕ) (next i : ℕ) (now : sets l next (rest
   over e = record { stored = rw e at now; behind = let f : next + 0 ≡ length (rest w s 0) = rw e at far in omega arith }
 
   pub lines-fault : (r : Refusal) → readAt w s i ≡ Fault r → Pushed l₀ 0 (rest w s 0) l next
-  lines-fault r e = over (ap (λ (p : Plan). lines w s (p .offsets)) (rest-fault w s i r e))
+  lines-fault r e = over (ap (λ (p : Plan). lines w s (p .offsets)) (rest-fault placeCount w s i r e))
 
   pub lines-end : readAt w s i ≡ End → Pushed l₀ 0 (rest w s 0) l next
-  lines-end e = over (ap (lines w s) (rest-end w s i e))
+  lines-end e = over (ap (lines w s) (rest-end placeCount w s i e))
 
 -- a sheet that was found sound, and one that was not
 module _ (w : ℕ) (s : List ℕ) where

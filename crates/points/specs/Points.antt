@@ -1,4 +1,4 @@
--- Document 01, "Reference points": the points with a star, each shown of the definitions, together as one fact.
+-- Document 01, "Reference points": the points with a star, and those of document 02, Paper 8, each shown of the definitions, together as one fact.
 use mathlib.Core.Path.{_≡_, refl}
 use mathlib.Core.List.{List, [], _∷_, _++_, sum}
 use Prim.Native.Nat.{ℕ, _+_, _*_, _/_, _^_}
@@ -29,11 +29,14 @@ pub record SheetPoints (w : ℕ) : Type 0 where
   pub flip : runBytes Forward w (6 ∷ 0 ∷ []) (lent w oneToEight) ≡ lent w (8 ∷ 7 ∷ 6 ∷ 5 ∷ 4 ∷ 3 ∷ 2 ∷ 1 ∷ [])
   -- 05 01 01 is 11 at 0
   pub same-place : numberOf (runAnswer w (5 ∷ 1 ∷ 1 ∷ []) (lent w oneToEight)) ≡ 11 * 2 ^ 32 + 0
-  -- document 02, Paper 8: 01 04 04 is 11 at 0; 06 04 is accepted; 06 08 and 01 08 08 are 10 at 0
-  pub same-high-place : numberOf (runAnswer w (1 ∷ 4 ∷ 4 ∷ []) (lent w oneToEight)) ≡ 11 * 2 ^ 32 + 0
-  pub high-place : runAnswer w (6 ∷ 4 ∷ []) (lent w oneToEight) ≡ Done 0
-  pub no-place : numberOf (runAnswer w (6 ∷ 8 ∷ []) (lent w oneToEight)) ≡ 10 * 2 ^ 32 + 0
-  pub no-places : numberOf (runAnswer w (1 ∷ 8 ∷ 8 ∷ []) (lent w oneToEight)) ≡ 10 * 2 ^ 32 + 0
+  -- 01 04 04 is 11 at 0
+  pub same-place-4 : numberOf (runAnswer w (1 ∷ 4 ∷ 4 ∷ []) (lent w oneToEight)) ≡ 11 * 2 ^ 32 + 0
+  -- 06 04 is accepted
+  pub place-4 : runAnswer w (6 ∷ 4 ∷ []) (lent w oneToEight) ≡ Done 0
+  -- 06 08 is 10 at 0
+  pub place-8 : numberOf (runAnswer w (6 ∷ 8 ∷ []) (lent w oneToEight)) ≡ 10 * 2 ^ 32 + 0
+  -- 01 08 08 is 10 at 0
+  pub same-place-8 : numberOf (runAnswer w (1 ∷ 8 ∷ 8 ∷ []) (lent w oneToEight)) ≡ 10 * 2 ^ 32 + 0
   -- 01 04 is 9 at 0
   pub truncated : numberOf (runAnswer w (1 ∷ 4 ∷ []) (lent w oneToEight)) ≡ 9 * 2 ^ 32 + 0
   -- 06 00 09 is 8 at 2, V0 unflipped
@@ -76,10 +79,10 @@ points =
             empty = refl;
             flip = refl;
             same-place = refl;
-            same-high-place = refl;
-            high-place = refl;
-            no-place = refl;
-            no-places = refl;
+            same-place-4 = refl;
+            place-4 = refl;
+            place-8 = refl;
+            same-place-8 = refl;
             truncated = refl;
             opcode = refl;
             unflipped = refl;
@@ -89,10 +92,10 @@ points =
             empty = refl;
             flip = refl;
             same-place = refl;
-            same-high-place = refl;
-            high-place = refl;
-            no-place = refl;
-            no-places = refl;
+            same-place-4 = refl;
+            place-4 = refl;
+            place-8 = refl;
+            same-place-8 = refl;
             truncated = refl;
             opcode = refl;
             unflipped = refl;

@@ -10,7 +10,7 @@ use Rattle.answer.specs.declared.Refusal.{Refusal}
 use Rattle.sheet.specs.declared.Decoded.{Decoded}
 use Rattle.sheet.specs.declared.Read.the-variants.{Got, Fault, End}
 use Rattle.sheet.specs.declared.Summary.the-variants.{Whole, Faulty}
-use Rattle.sheet.specs.Read.{readAt}
+use Rattle.sheet.specs.Read.{placeCount, readAt}
 use Rattle.sheet.specs.Sheet as Plans
 use Rattle.sheet.specs.Sheet.{Outcome, refused, behind, scanFrom}
 use Rattle.sheet.specs.Work.{totalUnits, summed, summary}
@@ -53,12 +53,12 @@ module _ (w : ℕ) (s : List ℕ) where
         let low = now .low in
         let g = length s - (n + 1) in
         let fuel : f ≡ suc g = omega arith in
-        let step : scanFrom f w s i ≡ behind i (scanFrom g w s (d .next)) = scan-got w s f g i d fuel e in
+        let step : scanFrom f w s i ≡ behind i (scanFrom g w s (d .next)) = scan-got placeCount w s f g i d fuel e in
         let on = h .on in
         let counted = rw step at (now .count) in
         let rest = scanFrom g w s (d .next) .offsets in
         let summed : t + (d .units + totalUnits w s rest) ≡ totalUnits w s (scanFrom (length s) w s 0 .offsets) =
-        rw (step, units-more w s i rest, e) at (now .units) in
+        rw (step, units-more placeCount w s i rest, e) at (now .units) in
         let one = h .few in
         let few = now .few in
         record {
@@ -77,15 +77,15 @@ module _ (w : ℕ) (s : List ℕ) where
     faulty r e inside =
         let low = now .low in
         let pos : 0 < length s - n = omega arith in
-        let step : scanFrom (length s - n) w s i ≡ refused r i = scan-fault w s (length s - n) i r pos e in
+        let step : scanFrom (length s - n) w s i ≡ refused r i = scan-fault placeCount w s (length s - n) i r pos e in
         (ap (summed w s (scanFrom (length s) w s 0 .offsets)) (rw step at (now .outcome)), rw step at (now .stored))
 
     pub ended : readAt w s i ≡ End
         → (Whole n t ≡ summary w s (scanFrom (length s) w s 0)) × (l ≡ sets l₀ 0 (scanFrom (length s) w s 0 .offsets))
     ended e =
-        let step = scan-end w s (length s - n) i e in
+        let step = scan-end placeCount w s (length s - n) i e in
         let count : n + 0 ≡ length (scanFrom (length s) w s 0 .offsets) = rw step at (now .count) in
-        let units : t + 0 ≡ totalUnits w s (scanFrom (length s) w s 0 .offsets) = rw (step, units-none w s) at (now .units) in
+        let units : t + 0 ≡ totalUnits w s (scanFrom (length s) w s 0 .offsets) = rw (step, units-none placeCount w s) at (now .units) in
         let en : n ≡ length (scanFrom (length s) w s 0 .offsets) = omega arith in
         let et : t ≡ totalUnits w s (scanFrom (length s) w s 0 .offsets) = omega arith in
         let o : _≡_ {A = Outcome} Plans.Sound (scanFrom (length s) w s 0 .outcome) = rw step at (now .outcome) in (

@@ -9,6 +9,7 @@ use lib.Seq.{sets, sets-eq, length-sets, take-at}
 use Rattle.answer.specs.declared.Refusal.{Refusal}
 use Rattle.answer.specs.declared.Refusal.the-variants.{Sheet}
 use Rattle.sheet.specs.declared.Summary.the-variants.{Whole, Faulty}
+use Rattle.sheet.specs.Read.{placeCount}
 use Rattle.sheet.specs.Sheet as Plans
 use Rattle.sheet.specs.Sheet.{Outcome, Plan, scanFrom, planOf}
 use Rattle.sheet.specs.Work.{totalUnits, summed, summary}
@@ -38,7 +39,7 @@ module _ (w : ℕ) (s : List ℕ) (e : planOf w s .outcome ≡ Plans.Sound) wher
   short-by (yes h) = h
   short-by (no h) =
       let long : 4096 < length s = omega arith in
-      let o : _≡_ {A = Outcome} (Plans.Faulty Sheet 0) Plans.Sound = ap (λ (p : Plan). p .outcome) (plan-long w s long) ∙ e in
+      let o : _≡_ {A = Outcome} (Plans.Faulty Sheet 0) Plans.Sound = ap (λ (p : Plan). p .outcome) (plan-long placeCount w s long) ∙ e in
       let z : _≡_ {A = ℕ} 0 1 = cc in
       absurd (omega arith)
 
@@ -47,12 +48,14 @@ module _ (w : ℕ) (s : List ℕ) (e : planOf w s .outcome ≡ Plans.Sound) wher
 
   -- .. and has at most 2,048 commands
   pub sound-few : length (planOf w s .offsets) ≤ 2048
-  sound-few = let h : 2 * length (planOf w s .offsets) ≤ length s = rw (plan-scanned w s sound-short) at (few-commands w s) in omega (arith, sound-short)
+  sound-few =
+      let h : 2 * length (planOf w s .offsets) ≤ length s = rw (plan-scanned placeCount w s sound-short) at (few-commands placeCount w s) in
+      omega (arith, sound-short)
 
   -- .. and no more than 1,365 that count
   pub sound-units : 1 ≤ w → totalUnits w s (planOf w s .offsets) ≤ 1365
   sound-units l =
-      let h : 3 * totalUnits w s (planOf w s .offsets) ≤ length s = rw (plan-scanned w s sound-short) at (few-units w s l) in
+      let h : 3 * totalUnits w s (planOf w s .offsets) ≤ length s = rw (plan-scanned placeCount w s sound-short) at (few-units placeCount w s l) in
       omega (arith, sound-short)
 
 -- a sheet that was found sound
@@ -64,7 +67,7 @@ module _ (w : ℕ) (s : List ℕ) {n t : ℕ} (e : Whole n t ≡ summary w s (pl
   short = sound-short w s (checked .sound)
 
   pub whole-scanned : scanFrom (length s) w s 0 ≡ planOf w s
-  whole-scanned = plan-scanned w s short
+  whole-scanned = plan-scanned placeCount w s short
 
   -- the offsets in an array that has a place for each command
   pub whole-offsets : (l : List ℕ) → length l ≡ 2048 → {kept : List ℕ} → kept ≡ sets l 0 (planOf w s .offsets)

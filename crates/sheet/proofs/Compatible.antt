@@ -36,7 +36,7 @@ use Rattle.sheet.specs.Effect.{at, vectorAt, effect, undone}
 use Rattle.sheet.specs.Work.{unitsIn, totalUnitsAmong}
 use Rattle.sheet.specs.Run.{Direction, Forward, Backward, order, stepWith, stepAmong, stepsAmong, vectorsFrom, vectorBytes}
 use Rattle.sheet.specs.Run.{runVectorsAmong, runAnswerAmong, runBytesAmong}
-use Rattle.sheet.specs.Sound.{SoundPlaces, SoundAmong, SoundRead}
+use Rattle.sheet.specs.Sound.{SoundPlaces, SoundCommandAmong, SoundRead}
 use Rattle.sheet.specs.Compatible.{Compatible}
 use Rattle.sheet.proofs.Sound.{read-sound}
 use Rattle.sheet.proofs.SheetAnswer.{Passed, passes, by-tests}
@@ -153,7 +153,7 @@ module _ {p w : ℕ} {u : List (List ℕ)} (st : State p w u) (t : List (List �
       )
       (set-append-left (set u (q .d) (at u (q .s))) t (q .s) (at u (q .d)) l)
 
-  effect-front : (s : List ℕ) (c : Command) → SoundAmong p w (length s) c → effect w s c (u ++ t) ≡ effect w s c u ++ t
+  effect-front : (s : List ℕ) (c : Command) → SoundCommandAmong p w (length s) c → effect w s c (u ++ t) ≡ effect w s c u ++ t
   effect-front s (Lmul q) h = two-front (product (widthOf w)) q h
   effect-front s (Rmul q) h = two-front (λ a y. product (widthOf w) y a) q h
   effect-front s (Ldiv q) h = two-front (leftDivision (widthOf w)) q h

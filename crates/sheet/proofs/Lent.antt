@@ -16,7 +16,7 @@ use Rattle.sheet.specs.Read.{placeCount}
 use Rattle.sheet.specs.Effect.{at, vectorAt}
 use Rattle.sheet.specs.Run.{vectorsFrom, vectorBytes}
 
--- there are n vectors, and every one is one
+-- there are n of them, and each is a vector
 pub record State (n w : ℕ) (v : List (List ℕ)) : Type 0 where
   pub size : length v ≡ n
   pub each : (i : ℕ) → i < n → Vector w (at v i)

@@ -15,7 +15,7 @@ use Rattle.sheet.specs.declared.Command.the-variants.{Lmul, Rmul, Ldiv, 
 use Rattle.sheet.specs.declared.Decoded.{Decoded}
 use Rattle.sheet.specs.declared.Read.the-variants.{Got, Fault}
 use Rattle.sheet.specs.Units.{units}
-use Rattle.sheet.specs.Sound.{SoundPlaces, SoundVector, SoundAmong, SoundDecoded, SoundRead}
+use Rattle.sheet.specs.Sound.{SoundPlaces, SoundVector, SoundCommandAmong, SoundDecoded, SoundRead}
 use Rattle.sheet.specs.Read.{placeCount, sizeOf, twoPlaceCommand, twoPlacesAmong, onePlaceCommand, onePlaceAmong, readAmong, readAt}
 
 pub size-two : (w b : ℕ) → 2 ≤ sizeOf w b
@@ -41,17 +41,17 @@ at-most-one (Kdiv d k) = omega arith
 
 -- among n places, in a sheet of m bytes
 module _ (n w m i : ℕ) (inside : i < m) (b next : ℕ) (on : i + 2 ≤ next) (within : next ≤ m) where
-  two-command : (p : Places) → SoundPlaces n p → SoundAmong n w m (twoPlaceCommand b p)
+  two-command : (p : Places) → SoundPlaces n p → SoundCommandAmong n w m (twoPlaceCommand b p)
   two-command p q =
-      let P = SoundAmong n w m in
+      let P = SoundCommandAmong n w m in
       split P (eqb b 1) _ _ (λ _. q) λ _.
       split P (eqb b 2) _ _ (λ _. q) λ _.
       split P (eqb b 3) _ _ (λ _. q) λ _.
       split P (eqb b 4) _ _ (λ _. q) (λ _. q)
 
-  one-command : (d : ℕ) → d < n → ((b ≡ 6 → ⊥) → i + 2 + w ≤ m) → SoundAmong n w m (onePlaceCommand b d (i + 2))
+  one-command : (d : ℕ) → d < n → ((b ≡ 6 → ⊥) → i + 2 + w ≤ m) → SoundCommandAmong n w m (onePlaceCommand b d (i + 2))
   one-command d l k =
-      let P = SoundAmong n w m in
+      let P = SoundCommandAmong n w m in
       split P (eqb b 6) _ _ (λ _. l) λ g.
       let v : SoundVector n w m d (i + 2) = record { place = l; within = k (eqb-false b 6 g) } in
       split P (eqb b 7) _ _ (λ _. v) (λ _. v)

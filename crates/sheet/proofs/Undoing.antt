@@ -23,7 +23,7 @@ use Rattle.sheet.specs.Read.{readAmong}
 use Rattle.sheet.specs.Sheet.{planAmong}
 use Rattle.sheet.specs.Effect.{at, vectorAt, effect, undone}
 use Rattle.sheet.specs.Run.{Direction, Forward, Backward, other, order, stepWith, stepAmong, stepsAmong, runVectorsAmong}
-use Rattle.sheet.specs.Sound.{SoundPlaces, SoundAmong, SoundRead}
+use Rattle.sheet.specs.Sound.{SoundPlaces, SoundCommandAmong, SoundRead}
 use Rattle.sheet.proofs.Sound.{read-sound}
 use Rattle.sheet.proofs.Lent.{State, in-range, set-state}
 
@@ -73,7 +73,7 @@ module _ {n w : ℕ} {v : List (List ℕ)} (st : State n w v) where
 
 -- ---- one command
 
-pub sound-undone : (n w m : ℕ) (c : Command) → SoundAmong n w m c → SoundAmong n w m (undone c)
+pub sound-undone : (n w m : ℕ) (c : Command) → SoundCommandAmong n w m c → SoundCommandAmong n w m (undone c)
 sound-undone n w m (Lmul p) h = h
 sound-undone n w m (Rmul p) h = h
 sound-undone n w m (Ldiv p) h = h
@@ -97,7 +97,7 @@ module _ (w : ℕ) (hw : Bytewise w) (s : List ℕ) (hs : Bytes s) where
   left-by : (k : ℕ) → Undo w (product (widthOf w) (vectorAt w s k)) (leftDivision (widthOf w) (vectorAt w s k))
   left-by k = left-division-undoes w hw (vectorAt w s k) (vector-at w hw s hs k)
 
-  effect-state : {n : ℕ} {v : List (List ℕ)} → State n w v → (c : Command) → SoundAmong n w (length s) c → State n w (effect w s c v)
+  effect-state : {n : ℕ} {v : List (List ℕ)} → State n w v → (c : Command) → SoundCommandAmong n w (length s) c → State n w (effect w s c v)
   effect-state st (Lmul p) h = state-by st (product (widthOf w)) (leftDivision (widthOf w)) (left-division-undoes w hw) p h
   effect-state st (Rmul p) h = state-by st (λ a y. product (widthOf w) y a) (λ a y. rightDivision (widthOf w) y a) (right-division-undoes w hw) p h
   effect-state st (Ldiv p) h = state-by st (leftDivision (widthOf w)) (product (widthOf w)) (λ a k. turn (left-division-undoes w hw a k)) p h
@@ -108,7 +108,7 @@ module _ (w : ℕ) (hw : Bytewise w) (s : List ℕ) (hs : Bytes s) where
   effect-state st (Kmul d k) h = state-at st (product (widthOf w) (vectorAt w s k)) (leftDivision (widthOf w) (vectorAt w s k)) (left-by k) d (h .place)
   effect-state st (Kdiv d k) h = state-at st (leftDivision (widthOf w) (vectorAt w s k)) (product (widthOf w) (vectorAt w s k)) (turn (left-by k)) d (h .place)
 
-  effect-back : {n : ℕ} {v : List (List ℕ)} → State n w v → (c : Command) → SoundAmong n w (length s) c → effect w s (undone c) (effect w s c v) ≡ v
+  effect-back : {n : ℕ} {v : List (List ℕ)} → State n w v → (c : Command) → SoundCommandAmong n w (length s) c → effect w s (undone c) (effect w s c v) ≡ v
   effect-back st (Lmul p) h = back-by st (product (widthOf w)) (leftDivision (widthOf w)) (left-division-undoes w hw) p h
   effect-back st (Rmul p) h = back-by st (λ a y. product (widthOf w) y a) (λ a y. rightDivision (widthOf w) y a) (right-division-undoes w hw) p h
   effect-back st (Ldiv p) h = back-by st (leftDivision (widthOf w)) (product (widthOf w)) (λ a k. turn (left-division-undoes w hw a k)) p h

@@ -1,5 +1,6 @@
--- Document 01, "The load sheet": reading one command, over the number n of places. Document 02, Paper 8, makes it eight, and names without `Among` are at
--- eight. A sheet is document 01's term for the bytes of a list of commands, a place for the number of one of the vectors.
+-- Document 01, "The load sheet": reading one command, over the number n of places, which document 02, Paper 8, makes eight. Names that end in `Among` take
+-- n first, here and in the files that follow; those at the end of a file are at eight. A sheet is document 01's term for the bytes of a list of commands, a
+-- place for the number of one of the vectors.
 use mathlib.Core.Bool.{cond, _||_}
 use mathlib.Core.List.{List}
 use Prim.Native.Nat.{ℕ, _+_}

@@ -20,23 +20,23 @@ pub record SoundVector (n w m d k : ℕ) : Type 0 where
   pub within : k + w ≤ m
 
 -- of a command in a sheet of m bytes, at width w
-abbrev pub SoundAmong : ℕ → ℕ → ℕ → Command → Type 0
-SoundAmong n w m (Lmul p) = SoundPlaces n p
-SoundAmong n w m (Rmul p) = SoundPlaces n p
-SoundAmong n w m (Ldiv p) = SoundPlaces n p
-SoundAmong n w m (Rdiv p) = SoundPlaces n p
-SoundAmong n w m (Swap p) = SoundPlaces n p
-SoundAmong n w m (Flip d) = d < n
-SoundAmong n w m (Kmul d k) = SoundVector n w m d k
-SoundAmong n w m (Kdiv d k) = SoundVector n w m d k
+abbrev pub SoundCommandAmong : ℕ → ℕ → ℕ → Command → Type 0
+SoundCommandAmong n w m (Lmul p) = SoundPlaces n p
+SoundCommandAmong n w m (Rmul p) = SoundPlaces n p
+SoundCommandAmong n w m (Ldiv p) = SoundPlaces n p
+SoundCommandAmong n w m (Rdiv p) = SoundPlaces n p
+SoundCommandAmong n w m (Swap p) = SoundPlaces n p
+SoundCommandAmong n w m (Flip d) = d < n
+SoundCommandAmong n w m (Kmul d k) = SoundVector n w m d k
+SoundCommandAmong n w m (Kdiv d k) = SoundVector n w m d k
 
 abbrev pub SoundCommand : ℕ → ℕ → Command → Type 0
-SoundCommand w m c = SoundAmong placeCount w m c
+SoundCommand w m c = SoundCommandAmong placeCount w m c
 
 -- .. read at offset i: the offset behind it is further on, and in the sheet; it counts one unit at most, and where a K takes a byte or more, one that
 -- counts takes three bytes or more
 pub record SoundDecodedAmong (n w m i : ℕ) (d : Decoded) : Type 0 where
-  pub sound : SoundAmong n w m (d .command)
+  pub sound : SoundCommandAmong n w m (d .command)
   pub on : i + 2 ≤ d .next
   pub within : d .next ≤ m
   pub few : d .units ≤ 1

@@ -3,6 +3,7 @@ use borrow.Author.Needs.{needs}
 use native.Mathlib.Omega.{arith}
 use denote.Ref.{now}
 use lib.ListN.{getD}
+use Rattle.sheet.specs.Read.{placeCount}
 use Rattle.sheet.proofs.Sound.{size-two, size-three}
 use Rattle.sheet.proofs.Scan.{read-end}
 use Rattle.reader.proofs.Cases.{opcode-zero, opcode-high, truncated, of-two, of-one}
@@ -10,7 +11,7 @@ use Rattle.reader.proofs.read_command.Statement.{statement}
 use Rattle.reader.proofs.read_command.Tie as tie
 
 returns : tie.Need-returns
-returns c = let a = c .before .before .args in sym (read-end (a .width) (now (a .sheet)) (a .at) (c .if1 .taken))
+returns c = let a = c .before .before .args in sym (read-end placeCount (a .width) (now (a .sheet)) (a .at) (c .if1 .taken))
 
 returns-2 : tie.Need-returns-2
 returns-2 c =
