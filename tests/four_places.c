@@ -1,6 +1,6 @@
 /*
  * four_places [file]: sheets that are accepted among four places mean the same among eight:
- * what they do to V0 to V3, and V4 to V7 are left. Held against the reference with four
+ * they do the same to V0 to V3 and leave V4 to V7. Held against the reference with four
  * places, and against the runs among four places in the file, whose head gives its form.
  */
 #include <inttypes.h>
@@ -135,7 +135,8 @@ static void lower_places(struct sheet *sheet)
     }
 }
 
-/* What the reference with four places accepts. Returns whether it did. */
+/* Checks a run of a sheet that the reference with four places accepts; returns whether it
+   does. */
 static bool check_former(enum direction direction, uint32_t width,
                          const struct sheet *sheet)
 {

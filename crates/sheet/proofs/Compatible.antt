@@ -9,7 +9,7 @@ use native.Mathlib.Omega.{arith}
 use borrow.Author.Tests.{leb-false, lt-leb, eq-eqb}
 use lib.Dec.{eqb, leb, ltb}
 use lib.ListN.{length, getD, set, take, drop, length-set, length-drop, List·getD-append}
-use lib.Seq.{set-append-left, length-take-le, take-all, take-at, drop-at}
+use lib.Seq.{set-append-left, take-all, take-at, drop-at}
 use Rattle.answer.specs.declared.Answer.{Answer}
 use Rattle.answer.specs.declared.Answer.the-variants.{Done}
 use Rattle.answer.specs.declared.Refusal.{Refusal}
@@ -197,9 +197,6 @@ bytes-append w (x ∷ u) t =
 module _ (p r w : ℕ) (hw : Bytewise w) (b : List ℕ) (hb : Bytes b) (size : length b ≡ (p + r) * w) where
   room : p * w + r * w ≡ length b
   room = sym (size ∙ add-mul p r w)
-
-  front-length : length (take (p * w) b) ≡ p * w
-  front-length = length-take-le (p * w) b (omega (arith, room))
 
   front-bytes : vectorBytes w (vectorsFrom w p b 0) ≡ take (p * w) b
   front-bytes = bytes-vectors-at w hw b hb p 0 (omega (arith, room))
