@@ -12,7 +12,7 @@ use Rattle.digest.specs.Kind.{narrowKind, wideKind}
 use Rattle.sheet.specs.Read.{readAmong}
 use Rattle.sheet.specs.Sheet.{planAmong}
 use Rattle.sheet.specs.SheetAnswer.{sheetAnswerAmong}
-use Rattle.sheet.specs.Run.{Forward, runAnswer, runBytes}
+use Rattle.sheet.specs.Run.{Forward, vectorsFrom, runAnswer, runBytes}
 
 abbrev oneToEight : List ℕ
 oneToEight = 1 ∷ 2 ∷ 3 ∷ 4 ∷ 5 ∷ 6 ∷ 7 ∷ 8 ∷ []
@@ -63,7 +63,7 @@ pub record Points : Type 0 where
   pub sheets-64 : SheetPoints 64
 
 pub points : Points
-unfolding rotl sheetAnswerAmong planAmong readAmong sum
+unfolding rotl sheetAnswerAmong planAmong readAmong vectorsFrom sum
 points =
     record {
       word = refl;

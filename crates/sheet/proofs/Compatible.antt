@@ -179,6 +179,7 @@ module _ (w : ℕ) (hw : Bytewise w) (s : List ℕ) (hs : Bytes s) (p : ℕ) (t 
 -- ---- the lent bytes
 
 vectors-split : (w p r : ℕ) (b : List ℕ) (i : ℕ) → vectorsFrom w (p + r) b i ≡ vectorsFrom w p b i ++ vectorsFrom w r b (i + p * w)
+unfolding vectorsFrom
 vectors-split w zero r b i =
     let e : i ≡ i + 0 * w = omega (arith, zero-mul w) in
     ap (λ (n : ℕ). vectorsFrom w n b i) (zero-add r) ∙ ap (vectorsFrom w r b) e

@@ -36,6 +36,7 @@ set-state {w = w} {v = v} st d x h hx =
 
 -- the vector at place i of those that stand from offset o on
 pub at-from : (w n : ℕ) (b : List ℕ) (o i : ℕ) → i < n → at (vectorsFrom w n b o) i ≡ vectorAt w b (o + i * w)
+unfolding vectorsFrom
 at-from w zero b o i h = absurd (omega arith)
 at-from w (suc n) b o zero h = let e : o ≡ o + 0 * w = omega (arith, zero-mul w) in ap (vectorAt w b) e
 at-from w (suc n) b o (suc i) h =
@@ -57,6 +58,7 @@ module _ (w : ℕ) (hw : Bytewise w) where
   -- the vectors in the bytes of vectors
   vectors-bytes-at : (v : List (List ℕ)) → ((i : ℕ) → i < length v → Vector w (at v i)) → (p : List ℕ) (i : ℕ) → length p ≡ i
       → vectorsFrom w (length v) (p ++ vectorBytes w v) i ≡ v
+  unfolding vectorsFrom
   vectors-bytes-at [] h p i e = refl
   vectors-bytes-at (x ∷ v) h p i e =
       let k = w / 8 in
@@ -79,6 +81,7 @@ module _ (w : ℕ) (hw : Bytewise w) where
   module _ (b : List ℕ) (hb : Bytes b) where
     -- the bytes of the vectors in bytes
     pub bytes-vectors-at : (n i : ℕ) → i + n * w ≤ length b → vectorBytes w (vectorsFrom w n b i) ≡ take (n * w) (drop i b)
+    unfolding vectorsFrom
     bytes-vectors-at zero i h = rw (zero-mul w)
     bytes-vectors-at (suc n) i h =
         let e : suc n * w ≡ w + n * w = suc-mul n w ∙ omega arith in
@@ -91,11 +94,13 @@ module _ (w : ℕ) (hw : Bytewise w) where
     bytes-vectors n e = bytes-vectors-at n 0 (omega arith) ∙ take-all (n * w) b (omega arith)
 
     each-from : (n i j : ℕ) → j < n → Vector w (at (vectorsFrom w n b i) j)
+    unfolding vectorsFrom
     each-from zero i j l = absurd (omega arith)
     each-from (suc n) i zero l = vector-at w hw b hb i
     each-from (suc n) i (suc j) l = each-from n (i + w) j (omega arith)
 
     length-from : (n i : ℕ) → length (vectorsFrom w n b i) ≡ n
+    unfolding vectorsFrom
     length-from zero i = refl
     length-from (suc n) i = ap suc (length-from n (i + w))
 

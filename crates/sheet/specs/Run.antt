@@ -50,7 +50,7 @@ abbrev pub stepsAmong : ℕ → Direction → ℕ → List ℕ → List ℕ → 
 stepsAmong n g w s l v = stepped (stepAmong n g w s) l v
 
 -- the n vectors of w bytes each that stand from offset i of b on, and back to bytes
-abbrev pub vectorsFrom : ℕ → ℕ → List ℕ → ℕ → List (List ℕ)
+unfoldable pub vectorsFrom : ℕ → ℕ → List ℕ → ℕ → List (List ℕ)
 vectorsFrom w zero b i = []
 vectorsFrom w (suc n) b i = vectorAt w b i ∷ vectorsFrom w n b (i + w)
 
