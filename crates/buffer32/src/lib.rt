@@ -12,8 +12,8 @@ pub fn product(x: &[u8], y: &[u8], out: &mut [u8])
     requires { ⌜ (32 ≤ length (now x)) × (32 ≤ length (now y)) × (32 ≤ length (now out)) ⌝ }
     ensures { λ _. ⌜ now (out .exit) ≡ onBytes product 32 (now (x .entry)) (now (y .entry)) ++ drop 32 (now (out .entry)) ⌝ }
 {
-    let left = product32::left_half(memory32::load_vector(x));
-    let right = product32::right_half(memory32::load_vector(y));
+    let left = half32::left_half(memory32::load_vector(x));
+    let right = half32::right_half(memory32::load_vector(y));
     memory32::store_vector(out, product32::joined(left, right));
 }
 
@@ -22,7 +22,7 @@ pub fn left_division(a: &[u8], b: &[u8], out: &mut [u8])
     requires { ⌜ (32 ≤ length (now a)) × (32 ≤ length (now b)) × (32 ≤ length (now out)) ⌝ }
     ensures { λ _. ⌜ now (out .exit) ≡ onBytes leftDivision 32 (now (a .entry)) (now (b .entry)) ++ drop 32 (now (out .entry)) ⌝ }
 {
-    let g = product32::left_half(memory32::load_vector(a));
+    let g = half32::left_half(memory32::load_vector(a));
     let z = division32::separated(memory32::load_vector(b), g);
     memory32::store_vector(out, division32::right_undone(z));
 }
@@ -32,7 +32,7 @@ pub fn right_division(b: &[u8], a: &[u8], out: &mut [u8])
     requires { ⌜ (32 ≤ length (now b)) × (32 ≤ length (now a)) × (32 ≤ length (now out)) ⌝ }
     ensures { λ _. ⌜ now (out .exit) ≡ onBytes rightDivision 32 (now (b .entry)) (now (a .entry)) ++ drop 32 (now (out .entry)) ⌝ }
 {
-    let h = product32::right_half(memory32::load_vector(a));
+    let h = half32::right_half(memory32::load_vector(a));
     let z = division32::separated(memory32::load_vector(b), h);
     memory32::store_vector(out, division32::left_undone(z));
 }

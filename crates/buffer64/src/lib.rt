@@ -12,8 +12,8 @@ pub fn product(x: &[u8], y: &[u8], out: &mut [u8])
     requires { ⌜ (64 ≤ length (now x)) × (64 ≤ length (now y)) × (64 ≤ length (now out)) ⌝ }
     ensures { λ _. ⌜ now (out .exit) ≡ onBytes product 64 (now (x .entry)) (now (y .entry)) ++ drop 64 (now (out .entry)) ⌝ }
 {
-    let left = product64::left_half(memory64::load_vector(x));
-    let right = product64::right_half(memory64::load_vector(y));
+    let left = half64::left_half(memory64::load_vector(x));
+    let right = half64::right_half(memory64::load_vector(y));
     memory64::store_vector(out, product64::joined(left, right));
 }
 
@@ -22,7 +22,7 @@ pub fn left_division(a: &[u8], b: &[u8], out: &mut [u8])
     requires { ⌜ (64 ≤ length (now a)) × (64 ≤ length (now b)) × (64 ≤ length (now out)) ⌝ }
     ensures { λ _. ⌜ now (out .exit) ≡ onBytes leftDivision 64 (now (a .entry)) (now (b .entry)) ++ drop 64 (now (out .entry)) ⌝ }
 {
-    let g = product64::left_half(memory64::load_vector(a));
+    let g = half64::left_half(memory64::load_vector(a));
     let z = division64::separated(memory64::load_vector(b), g);
     memory64::store_vector(out, division64::right_undone(z));
 }
@@ -32,7 +32,7 @@ pub fn right_division(b: &[u8], a: &[u8], out: &mut [u8])
     requires { ⌜ (64 ≤ length (now b)) × (64 ≤ length (now a)) × (64 ≤ length (now out)) ⌝ }
     ensures { λ _. ⌜ now (out .exit) ≡ onBytes rightDivision 64 (now (b .entry)) (now (a .entry)) ++ drop 64 (now (out .entry)) ⌝ }
 {
-    let h = product64::right_half(memory64::load_vector(a));
+    let h = half64::right_half(memory64::load_vector(a));
     let z = division64::separated(memory64::load_vector(b), h);
     memory64::store_vector(out, division64::left_undone(z));
 }

@@ -175,12 +175,12 @@ pub fn right_undone(z: [u32; 8]) -> [u32; 8]
 pub fn left_division(a: [u32; 8], b: [u32; 8]) -> [u32; 8]
     ensures { λ x. ⌜ x ≡ leftDivision width32 a b ⌝ }
 {
-    right_undone(separated(b, product32::left_half(a)))
+    right_undone(separated(b, half32::left_half(a)))
 }
 
 // b/a, the `y` with y*a = b.
 pub fn right_division(b: [u32; 8], a: [u32; 8]) -> [u32; 8]
     ensures { λ y. ⌜ y ≡ rightDivision width32 b a ⌝ }
 {
-    left_undone(separated(b, product32::right_half(a)))
+    left_undone(separated(b, half32::right_half(a)))
 }

@@ -175,12 +175,12 @@ pub fn right_undone(z: [u64; 8]) -> [u64; 8]
 pub fn left_division(a: [u64; 8], b: [u64; 8]) -> [u64; 8]
     ensures { λ x. ⌜ x ≡ leftDivision width64 a b ⌝ }
 {
-    right_undone(separated(b, product64::left_half(a)))
+    right_undone(separated(b, half64::left_half(a)))
 }
 
 // b/a, the `y` with y*a = b.
 pub fn right_division(b: [u64; 8], a: [u64; 8]) -> [u64; 8]
     ensures { λ y. ⌜ y ≡ rightDivision width64 b a ⌝ }
 {
-    left_undone(separated(b, product64::right_half(a)))
+    left_undone(separated(b, half64::right_half(a)))
 }

@@ -50,7 +50,7 @@ fn multiply_places(vectors: &mut [u8], d: usize, i: usize, j: usize)
     put(
         vectors,
         d,
-        product32::joined(product32::left_half(x), product32::right_half(y)),
+        product32::joined(half32::left_half(x), half32::right_half(y)),
     );
 }
 
@@ -65,7 +65,7 @@ fn multiply_by(vectors: &mut [u8], d: usize, sheet: &[u8], k: usize)
     put(
         vectors,
         d,
-        product32::joined(product32::left_half(x), product32::right_half(y)),
+        product32::joined(half32::left_half(x), half32::right_half(y)),
     );
 }
 

@@ -50,7 +50,7 @@ fn multiply_places(vectors: &mut [u8], d: usize, i: usize, j: usize)
     put(
         vectors,
         d,
-        product64::joined(product64::left_half(x), product64::right_half(y)),
+        product64::joined(half64::left_half(x), half64::right_half(y)),
     );
 }
 
@@ -65,7 +65,7 @@ fn multiply_by(vectors: &mut [u8], d: usize, sheet: &[u8], k: usize)
     put(
         vectors,
         d,
-        product64::joined(product64::left_half(x), product64::right_half(y)),
+        product64::joined(half64::left_half(x), half64::right_half(y)),
     );
 }
 

@@ -5,5 +5,6 @@ pub mod Sums
 pub mod Vectors
 pub mod Half
 pub mod Quasigroup
+pub mod Barred
 pub mod Widths
 pub mod InBytes

@@ -4,6 +4,7 @@ ghost use mathlib.Core.Path.{_≡_};
 ghost use mathlib.Core.List.{[], _∷_, map};
 ghost use Rattle.quasigroup.specs.Tables.{leftSums, rightSums, amounts};
 ghost use Rattle.quasigroup.specs.Product.{others};
+ghost use Rattle.quasigroup.specs.Barred.{barredLeftSums};
 ghost use Rattle.digest.specs.Start.{start224, start256, start384, start512};
 ghost use Rattle.tables.specs.Places.{unxorPlaces, plusPlaces, minusPlaces};
 
@@ -39,7 +40,25 @@ pub fn left_sums() -> [[usize; 5]; 8]
     LEFT_SUMS
 }
 
-// The same over Y.
+// The numbers in LEFT_SUMS counted from the other end.
+pub const BARRED_LEFT_SUMS: [[usize; 5]; 8] = [
+    [7, 6, 5, 3, 0],
+    [7, 6, 4, 3, 0],
+    [7, 6, 3, 1, 0],
+    [5, 4, 2, 1, 0],
+    [6, 5, 4, 2, 1],
+    [7, 5, 4, 3, 2],
+    [7, 6, 2, 1, 0],
+    [5, 4, 3, 2, 1],
+];
+
+pub fn barred_left_sums() -> [[usize; 5]; 8]
+    ensures { λ r. ⌜ r ≡ barredLeftSums ⌝ }
+{
+    BARRED_LEFT_SUMS
+}
+
+// The numbers of the words in sums 0 to 7 over Y.
 pub const RIGHT_SUMS: [[usize; 5]; 8] = [
     [0, 1, 2, 5, 7],
     [0, 1, 3, 4, 6],

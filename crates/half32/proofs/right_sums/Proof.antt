@@ -1,0 +1,29 @@
+use Rattle.memory.proofs.Eight.{eight}
+use borrow.Author.Needs.{needs}
+use Rattle.half32.proofs.right_sums.Statement.{statement}
+use Rattle.half32.proofs.right_sums.Tie as tie
+
+returns : tie.Need-returns
+returns c =
+    let sixth = c .before .before .before .before in
+    let fourth = sixth .before .before .before .before in
+    let second = fourth .before .before .before .before in
+    eight
+    (second .before .before .rotated-sum .ensures)
+    (second .rotated-sum2 .ensures)
+    (fourth .before .before .rotated-sum3 .ensures)
+    (fourth .rotated-sum4 .ensures)
+    (sixth .before .before .rotated-sum5 .ensures)
+    (sixth .rotated-sum6 .ensures)
+    (c .before .before .rotated-sum7 .ensures)
+    (c .rotated-sum8 .ensures)
+
+pub right-sums-spec : {M : Type 1} → statement M
+right-sums-spec =
+    tie.close
+    (tie.spec
+    (λ c. search needs) (λ c. search needs) (λ c. search needs) (λ c κs. search needs) (λ c. search needs)
+    (λ c. search needs) (λ c κs. search needs) (λ c. search needs) (λ c. search needs) (λ c κs. search needs)
+    (λ c. search needs) (λ c. search needs) (λ c κs. search needs) (λ c. search needs) (λ c. search needs)
+    (λ c κs. search needs) (λ c. search needs) (λ c. search needs) (λ c κs. search needs) (λ c. search needs)
+    (λ c. search needs) (λ c κs. search needs) (λ c. search needs) (λ c. search needs) (λ c κs. search needs) returns)

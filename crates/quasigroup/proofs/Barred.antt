@@ -1,0 +1,23 @@
+-- The barred product is the product of the barred vector, at every width.
+use mathlib.Core.Path.{_≡_, refl, ap, ap₂, _∙_}
+use mathlib.Core.List.{List}
+use Prim.Native.Nat.{ℕ}
+use Rattle.quasigroup.specs.Tables.{Width}
+use Rattle.quasigroup.specs.Product.{leftHalf, rightHalf, joined, product}
+use Rattle.quasigroup.specs.Vector.{reversed}
+use Rattle.quasigroup.specs.Barred.{barredLeftHalf, barredProduct, BarredProduct}
+
+-- Word i of the reversed vector is word 7 - i, so that both halves sum the same words.
+pub barred-left-half : (s : Width) (x : List ℕ) → barredLeftHalf s x ≡ leftHalf s (reversed x)
+unfolding leftHalf barredLeftHalf
+barred-left-half s x = refl
+
+pub barred-product : BarredProduct
+unfolding product barredProduct
+barred-product s x y = ap (λ (l : List ℕ). joined (s .bits) l (rightHalf s y)) (barred-left-half s x)
+
+-- a barred product from its halves
+pub barred-from-halves : (s : Width) (x y : List ℕ) {l r z : List ℕ} → l ≡ barredLeftHalf s x → r ≡ rightHalf s y → z ≡ joined (s .bits) l r
+    → z ≡ barredProduct s x y
+unfolding barredProduct
+barred-from-halves s x y a b c = c ∙ ap₂ (joined (s .bits)) a b
