@@ -5,6 +5,8 @@
 #   make test           all tests: everything is proved and run from nothing; the gate calls it
 #   make mutants        shows that the comparisons with C see wrong archives
 #   make bench          the benchmark's table; CC=clang sets the compiler of the C side
+#   make bench BEFORE=libedonr.a
+#                       the same, with the digests of an earlier archive measured in turn
 #   make install        archive, header and probe under $(DESTDIR)$(PREFIX)
 #   make uninstall      removes those three
 #   make clean          removes all that was built, proofs included
@@ -17,7 +19,8 @@ DESTDIR =
 warnings = -Wall -Wextra -pedantic -Werror
 archive = target/staticlib/libedonr.a
 probe = target/probe/edonr-probe
-bench = target/bench/edonr-bench-$(notdir $(CC))
+bench = target/bench/edonr-bench-$(notdir $(CC))$(if $(BEFORE),-before)
+before = $(if $(BEFORE),target/bench/before.o)
 header = include/edonr.h
 bench_sources = $(wildcard bench/*.[ch] tests/harness/*.[ch] tests/reference/*.[ch])
 prefix = $(DESTDIR)$(PREFIX)
@@ -35,9 +38,16 @@ $(probe): $(wildcard probe/*.c probe/*.h) $(header) $(archive)
 	mkdir -p $(@D)
 	$(CC) -std=c11 $(CFLAGS) $(warnings) -pthread -Iinclude $(filter %.c,$^) $(archive) -o $@
 
-$(bench): $(bench_sources) $(header) $(archive)
+$(bench): $(bench_sources) $(header) $(archive) $(before)
 	@mkdir -p $(@D)
-	@$(CC) -std=c11 -O3 $(warnings) -Iinclude $(filter %.c,$^) $(archive) -o $@
+	@$(CC) -std=c11 -O3 $(warnings) -Iinclude $(filter %.c %.o,$^) $(archive) -o $@
+
+# The earlier archive as one object, of which nothing but the digest is seen, under another name.
+$(before): $(BEFORE)
+	@mkdir -p $(@D)
+	@ld -r --whole-archive $< -o $@
+	@objcopy --keep-global-symbol=edonr_digest $@
+	@objcopy --redefine-sym edonr_digest=before_edonr_digest $@
 
 run: $(probe)
 	$(probe) --seconds 3

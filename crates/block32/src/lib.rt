@@ -9,9 +9,9 @@ ghost use Rattle.digest.specs.Pipe.{written};
 ghost use Rattle.digest.specs.Step.{R, step};
 ghost use Rattle.digest.specs.Kind.{narrowKind};
 ghost use Rattle.block32.specs.Pipes.{pipe32};
+use half32::barred_left_half;
 use half32::left_half;
 use half32::right_half;
-use product32::barred_product;
 use product32::joined;
 
 // Words 0 to 7 and words 8 to 15.
@@ -39,19 +39,20 @@ pub fn start(size: u32) -> Pipe32
     }
 }
 
-// The products of the definition: D1 and D7, whose first operand is barred, by the barred product, the others by their halves. D4 and D5 share the
-// left half of D3.
+// The products of the definition by their halves: D1 and D7, whose first operand is barred, are barred products. D4 and D5 share the left half of
+// D3, and D6 and D7 the right half of D5.
 fn transform(c0: [u32; 8], c1: [u32; 8], x: [u32; 8], y: [u32; 8]) -> Pipe32
     ensures { λ r. ⌜ pipe32 r ≡ R width32 c0 c1 x y ⌝ }
 {
-    let d1 = barred_product(y, x);
+    let d1 = joined(barred_left_half(y), right_half(x));
     let d2 = joined(left_half(d1), right_half(y));
     let d3 = joined(left_half(c0), right_half(d1));
     let left = left_half(d3);
     let d4 = joined(left, right_half(d2));
     let d5 = joined(left, right_half(c1));
-    let d6 = joined(left_half(d4), right_half(d5));
-    let d7 = barred_product(x, d5);
+    let right = right_half(d5);
+    let d6 = joined(left_half(d4), right);
+    let d7 = joined(barred_left_half(x), right);
     let d8 = joined(left_half(d7), right_half(d6));
     Pipe32 {
         first: d7,

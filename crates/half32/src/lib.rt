@@ -60,7 +60,7 @@ fn left_sums(v: [u32; 8]) -> [u32; 8]
     ]
 }
 
-// The sums of the vector with its words taken from the other end: no reversed copy is made, the table has 7 - i for i.
+// The same with the words of `v` taken from the other end: the table has 7 - i for i, and no reversed copy is made.
 fn barred_left_sums(v: [u32; 8]) -> [u32; 8]
     ensures { λ z. ⌜ z ≡ rotations 32 (width32 .leftAmounts) (sums 32 0xaaaa_aaaa barredLeftSums v) ⌝ }
 {
@@ -101,11 +101,11 @@ pub fn left_half(x: [u32; 8]) -> [u32; 8]
     left_combinations(left_sums(words(x)))
 }
 
-// The left half of the barred product.
+// The left half of the barred product; its sums read the words of `x` where they stand.
 pub fn barred_left_half(x: [u32; 8]) -> [u32; 8]
     ensures { λ z. ⌜ z ≡ barredLeftHalf width32 x ⌝ }
 {
-    left_combinations(barred_left_sums(words(x)))
+    left_combinations(barred_left_sums(x))
 }
 
 fn right_sums(v: [u32; 8]) -> [u32; 8]

@@ -1,5 +1,5 @@
 -- The two halves, and both undone, from their steps, for every width.
-use mathlib.Core.Path.{_≡_, ap, _∙_}
+use mathlib.Core.Path.{_≡_, refl, ap, _∙_}
 use mathlib.Core.List.{List}
 use Prim.Native.Nat.{ℕ}
 use Rattle.quasigroup.specs.Tables.{Width, leftSums, rightSums}
@@ -17,15 +17,16 @@ module _ (s : Width) {x v t z : List ℕ} (same : v ≡ x) where
   unfolding leftHalf
   left-half = from-steps (s .bits) (s .leftConstant) (s .leftAmounts) leftSums leftSums same
 
-  pub barred-left-half : t ≡ rotations (s .bits) (s .leftAmounts) (sums (s .bits) (s .leftConstant) barredLeftSums v) → z ≡ combinations leftSums t
-      → z ≡ barredLeftHalf s x
-  unfolding barredLeftHalf
-  barred-left-half = from-steps (s .bits) (s .leftConstant) (s .leftAmounts) barredLeftSums leftSums same
-
   pub right-half : t ≡ rotations (s .bits) (s .rightAmounts) (sums (s .bits) (s .rightConstant) rightSums v) → z ≡ combinations rightSums t
       → z ≡ rightHalf s x
   unfolding rightHalf
   right-half = from-steps (s .bits) (s .rightConstant) (s .rightAmounts) rightSums rightSums same
+
+-- the barred half takes its words where they stand
+pub barred-left-half : (s : Width) (x : List ℕ) {t z : List ℕ} → t ≡ rotations (s .bits) (s .leftAmounts) (sums (s .bits) (s .leftConstant) barredLeftSums x)
+    → z ≡ combinations leftSums t → z ≡ barredLeftHalf s x
+unfolding barredLeftHalf
+barred-left-half s x = from-steps (s .bits) (s .leftConstant) (s .leftAmounts) barredLeftSums leftSums {x = x} refl
 
 module _ (s : Width) (z : List ℕ) {t x : List ℕ} where
   pub undone-left : t ≡ unrotatedSums (s .bits) (s .leftConstant) (s .leftAmounts) leftUnxors z → x ≡ unsums (s .bits) leftInverse t → x ≡ unleft s z

@@ -5,7 +5,7 @@ use Rattle.half32.proofs.barred_left_half.Statement.{statement}
 use Rattle.half32.proofs.barred_left_half.Tie as tie
 
 returns : tie.Need-returns
-returns c = barred-left-half width32 (c .before .before .words .ensures) (c .before .barred-left-sums .ensures) (c .left-combinations .ensures)
+returns c = barred-left-half width32 _ (c .before .barred-left-sums .ensures) (c .left-combinations .ensures)
 
 pub barred-left-half-spec : {M : Type 1} → statement M
-barred-left-half-spec = tie.close (tie.spec (λ c κs. search needs) (λ c κs. search needs) (λ c κs. search needs) returns)
+barred-left-half-spec = tie.close (tie.spec (λ c κs. search needs) (λ c κs. search needs) returns)
