@@ -20,12 +20,12 @@ warnings = -Wall -Wextra -pedantic -Werror
 archive = target/staticlib/libedonr.a
 probe = target/probe/edonr-probe
 bench = target/bench/edonr-bench-$(notdir $(CC))$(if $(BEFORE),-before)
-before = $(if $(BEFORE),target/bench/before.o)
+before = target/bench/before.o
 header = include/edonr.h
 bench_sources = $(wildcard bench/*.[ch] tests/harness/*.[ch] tests/reference/*.[ch])
 prefix = $(DESTDIR)$(PREFIX)
 
-.PHONY: all run test mutants bench install uninstall clean
+.PHONY: all run test mutants bench install uninstall clean $(before)
 
 all: $(archive) $(probe)
 
@@ -38,11 +38,12 @@ $(probe): $(wildcard probe/*.c probe/*.h) $(header) $(archive)
 	mkdir -p $(@D)
 	$(CC) -std=c11 $(CFLAGS) $(warnings) -pthread -Iinclude $(filter %.c,$^) $(archive) -o $@
 
-$(bench): $(bench_sources) $(header) $(archive) $(before)
+$(bench): $(bench_sources) $(header) $(archive) $(if $(BEFORE),$(before))
 	@mkdir -p $(@D)
 	@$(CC) -std=c11 -O3 $(warnings) -Iinclude $(filter %.c %.o,$^) $(archive) -o $@
 
-# The earlier archive as one object, of which nothing but the digest is seen, under another name.
+# The earlier archive as one object, of which nothing but the digest is seen, under another
+# name. It is made each time, since BEFORE may name another archive than the last time.
 $(before): $(BEFORE)
 	@mkdir -p $(@D)
 	@ld -r --whole-archive $< -o $@

@@ -1,7 +1,8 @@
 /*
  * bench [stage ...]: archive against reference, as ratios measured in one run. Stages are
  * A (product and divisions), B (digest) and C (sheets); without one, all are run. A ratio
- * under 1 means that the archive is the faster one.
+ * under 1 means that the archive is the faster one. Where an earlier archive is linked in
+ * (make bench BEFORE=..), digests have a ratio to that one too.
  *
  * The reference divides with whole inverted squares, so that its divisions are slow by
  * design: the measure for a division is its ratio to the archive's own product.

@@ -10,7 +10,7 @@
 typedef uint64_t digest_call(uint32_t size, const uint8_t *message, size_t message_len,
                              uint8_t *out, size_t out_len);
 
-/* edonr_digest of an earlier archive, if `make bench BEFORE=..` has put one in, and else null. */
+/* edonr_digest of an earlier archive if `make bench BEFORE=..` has put one in, else null. */
 extern digest_call before_edonr_digest __attribute__((weak));
 
 struct chain {
@@ -50,7 +50,7 @@ static void bench_message(uint32_t size, size_t message_len)
            (unsigned)size, message_len, scale / works[0].seconds, scale / works[1].seconds,
            works[0].seconds / works[1].seconds);
     if (count == 3)
-        printf("  before %7.1f MB/s  time ratio %5.2f", scale / works[2].seconds,
+        printf("  before %7.1f MB/s  time ratio to before %5.2f", scale / works[2].seconds,
                works[0].seconds / works[2].seconds);
     printf("\n");
 }

@@ -39,8 +39,8 @@ pub fn start(size: u32) -> Pipe32
     }
 }
 
-// The products of the definition by their halves: D1 and D7, whose first operand is barred, are barred products. D4 and D5 share the left half of
-// D3, and D6 and D7 the right half of D5.
+// The products of the definition by their halves. D1 and D7, whose first operand is barred, are barred products. D4 and D5 share the left half of D3,
+// and D6 and D7 the right half of D5.
 fn transform(c0: [u32; 8], c1: [u32; 8], x: [u32; 8], y: [u32; 8]) -> Pipe32
     ensures { λ r. ⌜ pipe32 r ≡ R width32 c0 c1 x y ⌝ }
 {

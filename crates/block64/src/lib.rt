@@ -39,8 +39,8 @@ pub fn start(size: u32) -> Pipe64
     }
 }
 
-// The products of the definition by their halves: D1 and D7, whose first operand is barred, are barred products. D4 and D5 share the left half of
-// D3, and D6 and D7 the right half of D5.
+// The products of the definition by their halves. D1 and D7, whose first operand is barred, are barred products. D4 and D5 share the left half of D3,
+// and D6 and D7 the right half of D5.
 fn transform(c0: [u64; 8], c1: [u64; 8], x: [u64; 8], y: [u64; 8]) -> Pipe64
     ensures { λ r. ⌜ pipe64 r ≡ R width64 c0 c1 x y ⌝ }
 {

@@ -1,4 +1,4 @@
-// The two halves of EDON-R's product of vectors of eight words of 32 bits, as values.
+// The halves of EDON-R's product of vectors of eight words of 32 bits, and the left half of the barred product, as values.
 ghost use mathlib.Core.Path.{_≡_};
 ghost use Prim.Native.Nat.{_<_};
 ghost use lib.ListN.{getD};
@@ -60,7 +60,7 @@ fn left_sums(v: [u32; 8]) -> [u32; 8]
     ]
 }
 
-// The same with the words of `v` taken from the other end: the table has 7 - i for i, and no reversed copy is made.
+// The sums over X with the words of `v` taken from the other end: the table has 7 - i for i.
 fn barred_left_sums(v: [u32; 8]) -> [u32; 8]
     ensures { λ z. ⌜ z ≡ rotations 32 (width32 .leftAmounts) (sums 32 0xaaaa_aaaa barredLeftSums v) ⌝ }
 {
@@ -101,7 +101,7 @@ pub fn left_half(x: [u32; 8]) -> [u32; 8]
     left_combinations(left_sums(words(x)))
 }
 
-// The left half of the barred product; its sums read the words of `x` where they stand.
+// The left half of the barred product. The block step has just loaded `x` word by word, so that `words` would gain nothing.
 pub fn barred_left_half(x: [u32; 8]) -> [u32; 8]
     ensures { λ z. ⌜ z ≡ barredLeftHalf width32 x ⌝ }
 {

@@ -1,4 +1,4 @@
-// The two halves of EDON-R's product of vectors of eight words of 64 bits, as values.
+// The halves of EDON-R's product of vectors of eight words of 64 bits, and the left half of the barred product, as values.
 ghost use mathlib.Core.Path.{_≡_};
 ghost use Prim.Native.Nat.{_<_};
 ghost use lib.ListN.{getD};
@@ -60,7 +60,7 @@ fn left_sums(v: [u64; 8]) -> [u64; 8]
     ]
 }
 
-// The same with the words of `v` taken from the other end: the table has 7 - i for i, and no reversed copy is made.
+// The sums over X with the words of `v` taken from the other end: the table has 7 - i for i.
 fn barred_left_sums(v: [u64; 8]) -> [u64; 8]
     ensures { λ z. ⌜ z ≡ rotations 64 (width64 .leftAmounts) (sums 64 0xaaaa_aaaa_aaaa_aaaa barredLeftSums v) ⌝ }
 {
@@ -101,7 +101,7 @@ pub fn left_half(x: [u64; 8]) -> [u64; 8]
     left_combinations(left_sums(words(x)))
 }
 
-// The left half of the barred product; its sums read the words of `x` where they stand.
+// The left half of the barred product. The block step has just loaded `x` word by word, so that `words` would gain nothing.
 pub fn barred_left_half(x: [u64; 8]) -> [u64; 8]
     ensures { λ z. ⌜ z ≡ barredLeftHalf width64 x ⌝ }
 {

@@ -1,4 +1,4 @@
--- The two halves, and both undone, from their steps, for every width.
+-- The two halves, the barred one, and both undone, from their steps, for every width.
 use mathlib.Core.Path.{_≡_, refl, ap, _∙_}
 use mathlib.Core.List.{List}
 use Prim.Native.Nat.{ℕ}

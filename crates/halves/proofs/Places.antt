@@ -8,7 +8,7 @@ use lib.Bits.{bitXor, xor-zero-r, xor-self}
 use lib.ListN.{length, getD}
 use Rattle.memory.proofs.Lists.{word, spread}
 use Rattle.memory.proofs.Eight.{eight}
-use Rattle.word.specs.Word.{plus, minus, times, inverse}
+use Rattle.word.specs.Word.{plus, minus, times, inverse, rotl}
 use Rattle.quasigroup.specs.Product.{pick, both, first, sum, xor, rotations}
 use Rattle.quasigroup.specs.Division.{leftUnxors, unrotatedSums}
 use Rattle.tables.specs.Places.{unxorPlaces}
@@ -26,6 +26,19 @@ pub five-summed : (w k : ℕ) (p v : List ℕ) → length p ≡ 5
     → (word v p 0 + (word v p 1 + (word v p 2 + (word v p 3 + (word v p 4 + k) % 2 ^ w) % 2 ^ w) % 2 ^ w) % 2 ^ w) % 2 ^ w ≡ sum w k (pick p v)
 five-summed w k p v l =
     five-wrapped w (word v p 0) (word v p 1) (word v p 2) (word v p 3) (word v p 4) k ∙ ap (λ (q : List ℕ). sum w k (pick q v)) (spread 5 p l)
+
+-- rotated sum i, by row i of the tables
+abbrev rotatedSum : ℕ → ℕ → List ℕ → List (List ℕ) → List ℕ → ℕ → ℕ
+rotatedSum w k rs P v i = rotl w (getD rs i 0) (sum w k (pick (getD P i []) v))
+
+-- Eight rotated sums. Each is held against its own row, so that a wrong word number or constant is seen by itself.
+pub eight-sums : (w c : ℕ) (rs : List ℕ) (P : List (List ℕ)) (v : List ℕ) {t0 t1 t2 t3 t4 t5 t6 t7 : ℕ}
+    → t0 ≡ rotatedSum w c rs P v 0 → t1 ≡ rotatedSum w 0 rs P v 1 → t2 ≡ rotatedSum w 0 rs P v 2 → t3 ≡ rotatedSum w 0 rs P v 3
+    → t4 ≡ rotatedSum w 0 rs P v 4 → t5 ≡ rotatedSum w 0 rs P v 5 → t6 ≡ rotatedSum w 0 rs P v 6 → t7 ≡ rotatedSum w 0 rs P v 7
+    → _≡_ {A = List ℕ}
+    (t0 ∷ t1 ∷ t2 ∷ t3 ∷ t4 ∷ t5 ∷ t6 ∷ t7 ∷ [])
+    (rotatedSum w c rs P v 0 ∷ map (rotatedSum w 0 rs P v) (1 ∷ 2 ∷ 3 ∷ 4 ∷ 5 ∷ 6 ∷ 7 ∷ []))
+eight-sums w c rs P v e0 e1 e2 e3 e4 e5 e6 e7 = eight e0 e1 e2 e3 e4 e5 e6 e7
 
 pub three-combined : (p v : List ℕ) → length p ≡ 3 → bitXor (word v p 0) (bitXor (word v p 1) (word v p 2)) ≡ xor (pick p v)
 unfolding xor

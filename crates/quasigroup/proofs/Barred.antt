@@ -8,13 +8,13 @@ use Rattle.quasigroup.specs.Vector.{reversed}
 use Rattle.quasigroup.specs.Barred.{barredLeftHalf, barredProduct, BarredProduct}
 
 -- Word i of the reversed vector is word 7 - i, so that both halves sum the same words.
-pub barred-left-half : (s : Width) (x : List ℕ) → barredLeftHalf s x ≡ leftHalf s (reversed x)
+left-half-of-reversed : (s : Width) (x : List ℕ) → barredLeftHalf s x ≡ leftHalf s (reversed x)
 unfolding leftHalf barredLeftHalf
-barred-left-half s x = refl
+left-half-of-reversed s x = refl
 
 pub barred-product : BarredProduct
 unfolding product barredProduct
-barred-product s x y = ap (λ (l : List ℕ). joined (s .bits) l (rightHalf s y)) (barred-left-half s x)
+barred-product s x y = ap (λ (l : List ℕ). joined (s .bits) l (rightHalf s y)) (left-half-of-reversed s x)
 
 -- a barred product from its halves
 pub barred-from-halves : (s : Width) (x y : List ℕ) {l r z : List ℕ} → l ≡ barredLeftHalf s x → r ≡ rightHalf s y → z ≡ joined (s .bits) l r
