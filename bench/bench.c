@@ -1,11 +1,13 @@
 /*
  * bench [stage ...]: archive against reference, as ratios measured in one run. Stages are
- * A (product and divisions), B (digest) and C (sheets); without one, all are run. A ratio
- * under 1 means that the archive is the faster one. Where an earlier archive is linked in
- * (make bench BEFORE=..), digests have a ratio to that one too.
+ * A (product and divisions), B (digest), C (sheets) and E (blocks), as the header's parts;
+ * without one, all are run. A ratio under 1 means that the archive is the faster one. Where
+ * an earlier archive is linked in (make bench BEFORE=..), digests have a ratio to that one
+ * too.
  *
  * The reference divides with whole inverted squares, so that its divisions are slow by
- * design: the measure for a division is its ratio to the archive's own product.
+ * design: the measure for a division is its ratio to the archive's own product, and that
+ * for a step back its ratio to the archive's own step forward.
  */
 #define _POSIX_C_SOURCE 199309L
 
@@ -28,6 +30,7 @@ static const struct {
     {'A', bench_product},
     {'B', bench_digest},
     {'C', bench_sheets},
+    {'E', bench_blocks},
 };
 
 static double run_once(const struct work *work)

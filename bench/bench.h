@@ -21,5 +21,6 @@ void bench_measure(struct work *works, size_t count);
 void bench_product(void);
 void bench_digest(void);
 void bench_sheets(void);
+void bench_blocks(void);
 
 #endif

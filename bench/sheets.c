@@ -11,8 +11,6 @@ enum { MOST_BYTES = 4096, FLIP = 6, FLIP_BYTES = 2, PRODUCT_BYTES = 3 };
    that fit into the registers of some processor, and twice as many. */
 enum { FEW_PLACES = 4 };
 
-static const char *const direction_names[DIRECTIONS] = {"forward", "backward"};
-
 struct runner {
     run_function *run;
     uint32_t width;
@@ -121,7 +119,7 @@ static void bench_full_sheets(uint32_t width, enum direction direction)
     fill_sheet(FEW_PLACES, &sheets[0]);
     fill_sheet(EDONR_PLACES, &sheets[1]);
     measure(direction, width, sheets, 2, times);
-    printf("  width %u  %-8s", (unsigned)width, direction_names[direction]);
+    printf("  width %u  %-8s", (unsigned)width, direction_name(direction));
     print_columns(&times[0]);
     print_columns(&times[1]);
     printf("  %7.2f  %9.2f\n", times[1].archive / times[0].archive,
@@ -139,7 +137,7 @@ static void bench_growth(const char *kind, size_t (*make)(uint8_t *, size_t),
         measure(direction, 32, &sheet, 1, &times);
         printf("  width 32  %-8s  %5zu %-8s  archive %9.1f ns (%6.2f a command)  "
                "reference %9.1f ns  ratio %5.2f\n",
-               direction_names[direction], counts[i], kind, times.archive * 1e9,
+               direction_name(direction), counts[i], kind, times.archive * 1e9,
                times.archive * 1e9 / (double)counts[i], times.reference * 1e9,
                times.archive / times.reference);
     }

@@ -311,6 +311,52 @@ uint64_t edonr_wide_feed(struct edonr_wide *hash, const uint8_t *bytes, size_t b
  */
 uint64_t edonr_wide_finish(const struct edonr_wide *hash, uint8_t *out, size_t out_len);
 
+/* ============================ E. Blocks ============================ */
+
+/*
+ * The step of one block, by which the digests are made, forward and back.
+ *
+ * A pipe, EDON-R's chaining value, is two vectors of one width, lent as 2 * w bytes (64 or
+ * 128): the first, then the second. A block is two vectors as well, X and then Y, lent as
+ * 2 * w bytes. C0 is the pipe's second vector and C1 its first; a bar means the words in
+ * reverse order:
+ *
+ *   D1 = barY*X    D3 = C0*D1    D5 = D3*C1    D7 = barX*D5
+ *   D2 = D1*Y      D4 = D3*D2    D6 = D4*D5    D8 = D7*D6
+ *
+ * The pipe after the block is D7 and then D8. For each block and each pipe after it there
+ * is exactly one pipe before it.
+ *
+ * A digest of size n is the last n/8 bytes of the pipe that the blocks of the padded
+ * message lead to, one after the other, from the starting pipe of its size: first and then
+ * second of a hash that was just opened (D).
+ */
+
+/*
+ * A step forward: the pipe after the block from the pipe before it.
+ *
+ * Reads    pipe and block, 2 * w bytes each.
+ * Writes   on success pipe, all 2 * w bytes: the pipe after the block.
+ * Returns  2 * w, that is 64 or 128.
+ * Refuses  in this order:
+ *          5 EDONR_REFUSED_WIDTH   width is neither 32 nor 64;
+ *          6 EDONR_REFUSED_LENGTH  pipe_len or block_len is not exactly 2 * w.
+ */
+uint64_t edonr_block_forward(uint32_t width, uint8_t *pipe, size_t pipe_len,
+                             const uint8_t *block, size_t block_len);
+
+/*
+ * A step back: the pipe before the block from the pipe after it, so that a step forward and
+ * a step back of one block, in either order, give the pipe back.
+ *
+ * Reads    pipe and block, 2 * w bytes each.
+ * Writes   on success pipe, all 2 * w bytes: the pipe before the block.
+ * Returns  2 * w, that is 64 or 128.
+ * Refuses  what edonr_block_forward refuses, with the same answers.
+ */
+uint64_t edonr_block_backward(uint32_t width, uint8_t *pipe, size_t pipe_len,
+                              const uint8_t *block, size_t block_len);
+
 #ifdef __cplusplus
 }
 #endif

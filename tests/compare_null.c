@@ -12,6 +12,7 @@
 #include "harness/product_call.h"
 #include "harness/random.h"
 #include "harness/run_call.h"
+#include "harness/step_call.h"
 #include "reference/answer.h"
 #include "reference/division.h"
 
@@ -72,6 +73,21 @@ static void compare_runs(void)
     }
 }
 
+/* A step without pipe or without block is refused. */
+static void compare_steps(void)
+{
+    uint8_t pipe[PIPE_64];
+    check_group("steps");
+    for (unsigned n = 0; n < 4 * DIRECTIONS * 4; n++) {
+        uint32_t width = widths[n % 4];
+        size_t len = width == 64 ? PIPE_64 : PIPE_32;
+        struct step step = {(enum direction)(n / 4 % DIRECTIONS), width, bytes,
+                            slice_len(n / 4 / DIRECTIONS, 1, len)};
+        random_fill(pipe, sizeof pipe);
+        check_step_call(&step, pipe, slice_len(n / 4 / DIRECTIONS, 0, len));
+    }
+}
+
 /* From an opened state and from made-up ones, in form and not. */
 static void compare_pieces(enum kind kind)
 {
@@ -95,7 +111,7 @@ static void compare_pieces(enum kind kind)
 /* The same as numbers, without the reference. */
 static void check_points(void)
 {
-    uint8_t v[32] = {0}, vectors[VECTORS_32] = {0}, out[64];
+    uint8_t v[32] = {0}, vectors[VECTORS_32] = {0}, pipe[PIPE_32] = {0}, out[64];
     struct edonr_narrow narrow;
     struct edonr_wide wide;
     check_group("answers as numbers");
@@ -109,8 +125,12 @@ static void check_points(void)
     check(edonr_digest(512, v, 32, NULL, 0) == REFUSED(4), "digest without output");
     for (unsigned i = 0; i < DIRECTIONS; i++) {
         run_function *run = archive_runs[i];
+        step_function *step = archive_steps[i];
         check(run(32, NULL, 0, v, 2) == REFUSED(6), "a run without vectors");
         check(run(32, vectors, VECTORS_32, NULL, 0) == 0, "a run without a sheet");
+        check(step(32, NULL, 0, pipe, PIPE_32) == REFUSED(6), "a step without pipe");
+        check(step(32, pipe, PIPE_32, NULL, 0) == REFUSED(6), "a step without block");
+        check(step(33, NULL, 0, NULL, 0) == REFUSED(5), "a step with neither");
     }
     check(edonr_narrow_open(&narrow, 256) == 0 && edonr_wide_open(&wide, 512) == 0,
           "openings");
@@ -129,6 +149,7 @@ int main(int argc, char **argv)
     compare_products();
     compare_digests();
     compare_runs();
+    compare_steps();
     for (enum kind kind = NARROW; kind < KINDS; kind++)
         compare_pieces(kind);
     check_points();

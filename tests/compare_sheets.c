@@ -380,7 +380,7 @@ static void check_list(struct list *list)
         answers[i] = check_run_call(&list->runs[i], vectors, list->vectors_len);
     for (unsigned i = list->count; i > 0; i--) {
         struct run home = list->runs[i - 1];
-        home.direction = home.direction == FORWARD ? BACKWARD : FORWARD;
+        home.direction = opposite(home.direction);
         uint64_t answer = check_run_call(&home, vectors, list->vectors_len);
         check(answer == answers[i - 1], "run %u answered %" PRIx64 " and then %" PRIx64,
               i - 1, answers[i - 1], answer);

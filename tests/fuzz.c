@@ -1,7 +1,7 @@
 /*
- * fuzz [rounds]: all twelve calls with random arguments, sound, nearly sound and nonsense,
- * each compared with the reference. The number of rounds is fixed, so that two runs from
- * one seed are the same.
+ * fuzz [rounds]: all fourteen calls with random arguments, sound, nearly sound and
+ * nonsense, each compared with the reference. The number of rounds is fixed, so that two
+ * runs from one seed are the same.
  */
 #include <stdbool.h>
 #include <stdio.h>
@@ -16,11 +16,12 @@
 #include "harness/random.h"
 #include "harness/run_call.h"
 #include "harness/sheet_maker.h"
+#include "harness/step_call.h"
 #include "reference/answer.h"
 #include "reference/digest.h"
 #include "reference/division.h"
 
-enum { DEFAULT_ROUNDS = 1000000, MOST_MESSAGE = 1 << 16, CALLS = 12 };
+enum { DEFAULT_ROUNDS = 1000000, MOST_MESSAGE = 1 << 16, CALLS = 14 };
 
 static uint8_t bytes[MOST_MESSAGE];
 
@@ -162,6 +163,17 @@ static bool fuzz_finish(enum kind kind)
     return is_refusal(check_finish_call(kind, hash, out_len, NULL));
 }
 
+static bool fuzz_step(enum direction direction)
+{
+    uint8_t pipe[STEP_CALL_CAPACITY], block[STEP_CALL_CAPACITY];
+    uint32_t width = fuzz_width();
+    size_t pipe_len = (size_t)fuzz_number(2 * (uint64_t)width);
+    struct step step = {direction, width, block, (size_t)fuzz_number(2 * (uint64_t)width)};
+    random_pattern(pipe, pipe_len <= sizeof pipe ? pipe_len : 0);
+    random_pattern(block, step.block_len <= sizeof block ? step.block_len : 0);
+    return is_refusal(check_step_call(&step, pipe, pipe_len));
+}
+
 static bool fuzz_call(unsigned call)
 {
     enum kind kind = call % 2 == 0 ? NARROW : WIDE;
@@ -176,7 +188,10 @@ static bool fuzz_call(unsigned call)
     case 7: return fuzz_open(kind);
     case 8:
     case 9: return fuzz_feed(kind);
-    default: return fuzz_finish(kind);
+    case 10:
+    case 11: return fuzz_finish(kind);
+    case 12: return fuzz_step(FORWARD);
+    default: return fuzz_step(BACKWARD);
     }
 }
 
@@ -186,13 +201,14 @@ int main(int argc, char **argv)
         "product",        "left division", "right division", "digest",
         "forward run",    "backward run",  "narrow opening", "wide opening",
         "narrow feeding", "wide feeding",  "narrow finish",  "wide finish",
+        "forward step",   "backward step",
     };
     unsigned long calls[CALLS] = {0}, refused[CALLS] = {0};
     int argument = check_program("fuzz", argc, argv);
     unsigned long rounds =
         argument < argc ? strtoul(argv[argument], NULL, 10) : DEFAULT_ROUNDS;
     reference_init();
-    check_group("twelve calls with random arguments");
+    check_group("fourteen calls with random arguments");
     for (unsigned long round = 0; round < rounds; round++) {
         unsigned call = (unsigned)random_below(CALLS);
         calls[call]++;

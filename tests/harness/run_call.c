@@ -41,8 +41,8 @@ uint64_t check_run_call(const struct run *run, uint8_t *vectors, size_t vectors_
               lent_holds(&lent_sheet, run->sheet),
           "%s run, width %" PRIu32 ", vectors of %zu bytes, sheet of %zu: answered %" PRIx64
           ", expected %" PRIx64,
-          run->direction == FORWARD ? "forward" : "backward", run->width, vectors_len,
-          run->sheet_len, got, want);
+          direction_name(run->direction), run->width, vectors_len, run->sheet_len, got,
+          want);
     if (held > 0)
         memcpy(vectors, lent_vectors.bytes, held);
     return got;

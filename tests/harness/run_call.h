@@ -7,9 +7,8 @@
 #include <stddef.h>
 #include <stdint.h>
 
+#include "direction.h"
 #include "edonr.h"
-
-enum direction { FORWARD, BACKWARD, DIRECTIONS };
 
 typedef uint64_t run_function(uint32_t width, uint8_t *vectors, size_t vectors_len,
                               const uint8_t *sheet, size_t sheet_len);

@@ -1,6 +1,6 @@
 /*
- * Starting values, padding, the step of one block and what a digest takes from the pipe,
- * at both widths.
+ * Starting values, padding, the step of one block, forward and back, and what a digest
+ * takes from the pipe, at both widths. Before a step back, reference_init comes first.
  */
 #ifndef REFERENCE_BLOCK_H
 #define REFERENCE_BLOCK_H
@@ -8,6 +8,7 @@
 #include <stddef.h>
 #include <string.h>
 
+#include "division.h"
 #include "variant.h"
 #include "vector.h"
 

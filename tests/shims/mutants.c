@@ -1,7 +1,7 @@
 /*
  * Wrong archives: each call passes on to the archive's own, but for what the chosen mutant
  * does wrong. To be compiled with -DMUTANT=name, a name of the list below, and linked with
- * --wrap of all twelve calls, so that the comparisons meet it in the archive's place.
+ * --wrap of all fourteen calls, so that the comparisons meet it in the archive's place.
  */
 #include <stdbool.h>
 #include <string.h>
@@ -56,7 +56,26 @@ enum mutant {
     finish_changes_hash,
     finish_writes_behind,
     finish_total_by_32_bits,
-    finish_marked
+    finish_marked,
+    block_answers_width,
+    block_refused_writes,
+    block_refusals_exchanged,
+    block_length_not_tested,
+    block_length_by_32_bits,
+    pipe_length_not_tested,
+    pipe_length_by_32_bits,
+    block_writes_behind,
+    block_changes_block,
+    block_steps_idle,
+    block_directions_exchanged,
+    block_c0_is_first_half,
+    block_forward_of_some,
+    block_forward_results_exchanged,
+    block_forward_y_first,
+    block_backward_is_forward,
+    block_backward_of_high_bits,
+    block_backward_y_first,
+    block_backward_left_for_right
 };
 
 #define IS(name) (MUTANT == (name))
@@ -320,4 +339,112 @@ uint64_t WRAP(digest)(uint32_t size, const uint8_t *message, size_t message_len,
     if (IS(digest_writes_behind) && out_len > size / 8)
         out[size / 8] ^= 1;
     return answer;
+}
+
+/* ---------------- blocks ---------------- */
+
+#define STEP(name)                                                                         \
+    uint64_t name(uint32_t width, uint8_t *pipe, size_t pipe_len, const uint8_t *block,    \
+                  size_t block_len)
+
+STEP(REAL(block_forward));
+STEP(REAL(block_backward));
+
+typedef STEP(step_function);
+
+enum { MOST_PIPE = 2 * 64 };
+
+/* The two vectors of a pipe or of a block. */
+static void exchange_halves(uint32_t width, uint8_t *pair)
+{
+    uint8_t first[MOST_PIPE / 2];
+    memcpy(first, pair, width);
+    memcpy(pair, pair + width, width);
+    memcpy(pair + width, first, width);
+}
+
+/* C0 as D1\D3, where a step back has found it as D3/D1. */
+static void divide_left_for_right(uint32_t width, uint8_t *pipe, const uint8_t *block)
+{
+    uint8_t bar_y[64], d1[64], d3[64];
+    size_t word_len = width / 8;
+    for (size_t i = 0; i < 8; i++)
+        memcpy(bar_y + i * word_len, block + width + (7 - i) * word_len, word_len);
+    REAL(product)(width, bar_y, width, block, width, d1, width);
+    REAL(product)(width, pipe + width, width, d1, width, d3, width);
+    REAL(left_division)(width, d1, width, d3, width, pipe + width, width);
+}
+
+static uint64_t other_step_refusal(uint64_t answer, uint32_t width, uint8_t *pipe,
+                                   size_t pipe_len, size_t block_len)
+{
+    size_t len = 2 * (size_t)width;
+    if (IS(block_refused_writes) && pipe_len > 0)
+        pipe[0] ^= 1;
+    if (IS(block_refusals_exchanged) && (pipe_len != len || block_len != len))
+        return edonr_refused(EDONR_REFUSED_LENGTH, 0);
+    return answer;
+}
+
+/* A step that is not refused. */
+static void move(step_function *real, bool backward, uint32_t width, uint8_t *pipe,
+                 const uint8_t *block)
+{
+    size_t len = 2 * (size_t)width;
+    uint8_t other[MOST_PIPE];
+    bool some = block[5] == 0x5A && (pipe[9] & 0x1F) == 3;
+    bool high_bits = width == 64 && (block[63] & pipe[127] & 0x80);
+    memcpy(other, block, len);
+    if (backward ? IS(block_backward_y_first) : IS(block_forward_y_first))
+        exchange_halves(width, other);
+    if (IS(block_c0_is_first_half) && !backward)
+        exchange_halves(width, pipe);
+    real(width, pipe, len, other, len);
+    if (backward ? IS(block_c0_is_first_half) : IS(block_forward_results_exchanged))
+        exchange_halves(width, pipe);
+    if (IS(block_backward_left_for_right) && backward)
+        divide_left_for_right(width, pipe, block);
+    if (backward ? IS(block_backward_of_high_bits) && high_bits
+                 : IS(block_forward_of_some) && some)
+        pipe[len - 1] ^= 0x80;
+}
+
+static uint64_t step(step_function *real, bool backward, uint32_t width, uint8_t *pipe,
+                     size_t pipe_len, const uint8_t *block, size_t block_len)
+{
+    uint8_t unused[MOST_PIPE] = {0};
+    size_t len = 2 * (size_t)width;
+    if (IS(pipe_length_by_32_bits))
+        pipe_len = (uint32_t)pipe_len;
+    if (IS(block_length_by_32_bits))
+        block_len = (uint32_t)block_len;
+    if (IS(pipe_length_not_tested) && pipe_len > len)
+        pipe_len = len;
+    if (IS(block_length_not_tested) && block_len > len)
+        block_len = len;
+    uint64_t answer = real(width, unused, pipe_len, block, block_len);
+    if (!succeeds(answer))
+        return other_step_refusal(answer, width, pipe, pipe_len, block_len);
+    if (!IS(block_steps_idle))
+        move(real, backward, width, pipe, block);
+    if (IS(block_writes_behind))
+        pipe[pipe_len] = 0;
+    if (IS(block_changes_block))
+        ((uint8_t *)block)[block_len - 1] ^= 1;
+    return IS(block_answers_width) ? width : answer;
+}
+
+STEP(WRAP(block_forward))
+{
+    step_function *real =
+        IS(block_directions_exchanged) ? REAL(block_backward) : REAL(block_forward);
+    return step(real, false, width, pipe, pipe_len, block, block_len);
+}
+
+STEP(WRAP(block_backward))
+{
+    step_function *real = IS(block_directions_exchanged) || IS(block_backward_is_forward)
+                              ? REAL(block_forward)
+                              : REAL(block_backward);
+    return step(real, true, width, pipe, pipe_len, block, block_len);
 }

@@ -10,6 +10,7 @@
 #include "../reference/division.h"
 #include "../reference/product.h"
 #include "../reference/sheet.h"
+#include "../reference/step.h"
 
 /* The kit needs no first call, so the probe makes none. */
 __attribute__((constructor)) static void prepare(void)
@@ -51,6 +52,18 @@ uint64_t edonr_run_backward(uint32_t width, uint8_t *vectors, size_t vectors_len
                             const uint8_t *sheet, size_t sheet_len)
 {
     return reference_run_backward(width, vectors, vectors_len, sheet, sheet_len);
+}
+
+uint64_t edonr_block_forward(uint32_t width, uint8_t *pipe, size_t pipe_len,
+                             const uint8_t *block, size_t block_len)
+{
+    return reference_block_forward(width, pipe, pipe_len, block, block_len);
+}
+
+uint64_t edonr_block_backward(uint32_t width, uint8_t *pipe, size_t pipe_len,
+                              const uint8_t *block, size_t block_len)
+{
+    return reference_block_backward(width, pipe, pipe_len, block, block_len);
 }
 
 /*

@@ -1,4 +1,4 @@
-// The pipe of the narrow kind and one block's step, on words of 32 bits.
+// The pipe of the narrow kind and one block's step, on words of 32 bits; and a pipe in lent bytes, a block forward and back.
 ghost use mathlib.Core.Path.{_≡_};
 ghost use mathlib.Core.List.{_++_};
 ghost use Prim.Native.Nat.{_≤_};
@@ -6,20 +6,13 @@ ghost use lib.ListN.{length, drop};
 ghost use Rattle.quasigroup.specs.Tables.{width32};
 ghost use Rattle.digest.specs.Blocks.{compressed, lastBytes};
 ghost use Rattle.digest.specs.Pipe.{written};
-ghost use Rattle.digest.specs.Step.{R, step};
+ghost use Rattle.digest.specs.Step.{blockX, blockY, step};
 ghost use Rattle.digest.specs.Kind.{narrowKind};
-ghost use Rattle.block32.specs.Pipes.{pipe32};
-use half32::barred_left_half;
-use half32::left_half;
-use half32::right_half;
-use product32::joined;
-
-// Words 0 to 7 and words 8 to 15.
-#[repr(C)]
-pub struct Pipe32 {
-    pub first: [u32; 8],
-    pub second: [u32; 8],
-}
+ghost use Rattle.invertible.specs.RoundTrip.{Forward, Backward};
+ghost use Rattle.pipe.specs.Backward.{backward};
+ghost use Rattle.pipe.specs.Call.{pipeIn, pipeBytes};
+ghost use Rattle.compression32.specs.Pipes.{pipe32};
+use compression32::Pipe32;
 
 // The starting pipe of a size.
 pub fn start(size: u32) -> Pipe32
@@ -39,25 +32,28 @@ pub fn start(size: u32) -> Pipe32
     }
 }
 
-// The products of the definition by their halves. D1 and D7, whose first operand is barred, are barred products. D4 and D5 share the left half of D3,
-// and D6 and D7 the right half of D5.
-fn transform(c0: [u32; 8], c1: [u32; 8], x: [u32; 8], y: [u32; 8]) -> Pipe32
-    ensures { λ r. ⌜ pipe32 r ≡ R width32 c0 c1 x y ⌝ }
+// The sixteen words of `b`: of a pipe, or of a block as its halves.
+fn load(b: &[u8]) -> Pipe32
+    requires { ⌜ length (now b) ≡ 64 ⌝ }
+    ensures { λ r. ⌜ pipe32 r ≡ pipeIn width32 (now (b .entry)) ⌝ }
 {
-    let d1 = joined(barred_left_half(y), right_half(x));
-    let d2 = joined(left_half(d1), right_half(y));
-    let d3 = joined(left_half(c0), right_half(d1));
-    let left = left_half(d3);
-    let d4 = joined(left, right_half(d2));
-    let d5 = joined(left, right_half(c1));
-    let right = right_half(d5);
-    let d6 = joined(left_half(d4), right);
-    let d7 = joined(barred_left_half(x), right);
-    let d8 = joined(left_half(d7), right_half(d6));
+    let first = memory32::load_vector(b);
+    let second = memory32::load_vector(&b[32..]);
     Pipe32 {
-        first: d7,
-        second: d8,
+        first,
+        second,
     }
+}
+
+// The sixteen words of `p`, as all of `b`.
+fn store(b: &mut [u8], p: Pipe32)
+    requires { ⌜ length (now b) ≡ 64 ⌝ }
+    ensures { λ _. ⌜ now (b .exit) ≡ written 4 (pipe32 p) ⌝ }
+{
+    let first = p.first;
+    let second = p.second;
+    memory32::store_vector(b, first);
+    memory32::store_vector(&mut b[32..], second);
 }
 
 // The pipe after the block `m`.
@@ -65,11 +61,39 @@ pub fn step(p: Pipe32, m: &[u8]) -> Pipe32
     requires { ⌜ length (now m) ≡ 64 ⌝ }
     ensures { λ r. ⌜ pipe32 r ≡ step width32 (pipe32 p) (now (m .entry)) ⌝ }
 {
-    let x = memory32::load_vector(m);
-    let y = memory32::load_vector(&m[32..]);
-    let c0 = p.second;
-    let c1 = p.first;
-    transform(c0, c1, x, y)
+    let b = load(m);
+    let x = b.first;
+    let y = b.second;
+    compression32::forward(p, x, y)
+}
+
+// The pipe before the block `m`.
+fn step_back(p: Pipe32, m: &[u8]) -> Pipe32
+    requires { ⌜ length (now m) ≡ 64 ⌝ }
+    ensures { λ r. ⌜ pipe32 r ≡ backward width32 (pipe32 p) (blockX width32 (now (m .entry))) (blockY width32 (now (m .entry))) ⌝ }
+{
+    let b = load(m);
+    let x = b.first;
+    let y = b.second;
+    compression32::backward(p, x, y)
+}
+
+// The pipe in `b` after the block `m`, in its place.
+pub fn forward(b: &mut [u8], m: &[u8])
+    requires { ⌜ (length (now b) ≡ 64) × (length (now m) ≡ 64) ⌝ }
+    ensures { λ _. ⌜ now (b .exit) ≡ pipeBytes width32 Forward (now (m .entry)) (now (b .entry)) ⌝ }
+{
+    let p = load(b);
+    store(b, step(p, m));
+}
+
+// The pipe in `b` before the block `m`, in its place.
+pub fn backward(b: &mut [u8], m: &[u8])
+    requires { ⌜ (length (now b) ≡ 64) × (length (now m) ≡ 64) ⌝ }
+    ensures { λ _. ⌜ now (b .exit) ≡ pipeBytes width32 Backward (now (m .entry)) (now (b .entry)) ⌝ }
+{
+    let p = load(b);
+    store(b, step_back(p, m));
 }
 
 // The pipe after all whole blocks of `s`, which are taken straight from it.

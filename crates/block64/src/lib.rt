@@ -1,4 +1,4 @@
-// The pipe of the wide kind and one block's step, on words of 64 bits.
+// The pipe of the wide kind and one block's step, on words of 64 bits; and a pipe in lent bytes, a block forward and back.
 ghost use mathlib.Core.Path.{_≡_};
 ghost use mathlib.Core.List.{_++_};
 ghost use Prim.Native.Nat.{_≤_};
@@ -6,20 +6,13 @@ ghost use lib.ListN.{length, drop};
 ghost use Rattle.quasigroup.specs.Tables.{width64};
 ghost use Rattle.digest.specs.Blocks.{compressed, lastBytes};
 ghost use Rattle.digest.specs.Pipe.{written};
-ghost use Rattle.digest.specs.Step.{R, step};
+ghost use Rattle.digest.specs.Step.{blockX, blockY, step};
 ghost use Rattle.digest.specs.Kind.{wideKind};
-ghost use Rattle.block64.specs.Pipes.{pipe64};
-use half64::barred_left_half;
-use half64::left_half;
-use half64::right_half;
-use product64::joined;
-
-// Words 0 to 7 and words 8 to 15.
-#[repr(C)]
-pub struct Pipe64 {
-    pub first: [u64; 8],
-    pub second: [u64; 8],
-}
+ghost use Rattle.invertible.specs.RoundTrip.{Forward, Backward};
+ghost use Rattle.pipe.specs.Backward.{backward};
+ghost use Rattle.pipe.specs.Call.{pipeIn, pipeBytes};
+ghost use Rattle.compression64.specs.Pipes.{pipe64};
+use compression64::Pipe64;
 
 // The starting pipe of a size.
 pub fn start(size: u32) -> Pipe64
@@ -39,25 +32,28 @@ pub fn start(size: u32) -> Pipe64
     }
 }
 
-// The products of the definition by their halves. D1 and D7, whose first operand is barred, are barred products. D4 and D5 share the left half of D3,
-// and D6 and D7 the right half of D5.
-fn transform(c0: [u64; 8], c1: [u64; 8], x: [u64; 8], y: [u64; 8]) -> Pipe64
-    ensures { λ r. ⌜ pipe64 r ≡ R width64 c0 c1 x y ⌝ }
+// The sixteen words of `b`: of a pipe, or of a block as its halves.
+fn load(b: &[u8]) -> Pipe64
+    requires { ⌜ length (now b) ≡ 128 ⌝ }
+    ensures { λ r. ⌜ pipe64 r ≡ pipeIn width64 (now (b .entry)) ⌝ }
 {
-    let d1 = joined(barred_left_half(y), right_half(x));
-    let d2 = joined(left_half(d1), right_half(y));
-    let d3 = joined(left_half(c0), right_half(d1));
-    let left = left_half(d3);
-    let d4 = joined(left, right_half(d2));
-    let d5 = joined(left, right_half(c1));
-    let right = right_half(d5);
-    let d6 = joined(left_half(d4), right);
-    let d7 = joined(barred_left_half(x), right);
-    let d8 = joined(left_half(d7), right_half(d6));
+    let first = memory64::load_vector(b);
+    let second = memory64::load_vector(&b[64..]);
     Pipe64 {
-        first: d7,
-        second: d8,
+        first,
+        second,
     }
+}
+
+// The sixteen words of `p`, as all of `b`.
+fn store(b: &mut [u8], p: Pipe64)
+    requires { ⌜ length (now b) ≡ 128 ⌝ }
+    ensures { λ _. ⌜ now (b .exit) ≡ written 8 (pipe64 p) ⌝ }
+{
+    let first = p.first;
+    let second = p.second;
+    memory64::store_vector(b, first);
+    memory64::store_vector(&mut b[64..], second);
 }
 
 // The pipe after the block `m`.
@@ -65,11 +61,39 @@ pub fn step(p: Pipe64, m: &[u8]) -> Pipe64
     requires { ⌜ length (now m) ≡ 128 ⌝ }
     ensures { λ r. ⌜ pipe64 r ≡ step width64 (pipe64 p) (now (m .entry)) ⌝ }
 {
-    let x = memory64::load_vector(m);
-    let y = memory64::load_vector(&m[64..]);
-    let c0 = p.second;
-    let c1 = p.first;
-    transform(c0, c1, x, y)
+    let b = load(m);
+    let x = b.first;
+    let y = b.second;
+    compression64::forward(p, x, y)
+}
+
+// The pipe before the block `m`.
+fn step_back(p: Pipe64, m: &[u8]) -> Pipe64
+    requires { ⌜ length (now m) ≡ 128 ⌝ }
+    ensures { λ r. ⌜ pipe64 r ≡ backward width64 (pipe64 p) (blockX width64 (now (m .entry))) (blockY width64 (now (m .entry))) ⌝ }
+{
+    let b = load(m);
+    let x = b.first;
+    let y = b.second;
+    compression64::backward(p, x, y)
+}
+
+// The pipe in `b` after the block `m`, in its place.
+pub fn forward(b: &mut [u8], m: &[u8])
+    requires { ⌜ (length (now b) ≡ 128) × (length (now m) ≡ 128) ⌝ }
+    ensures { λ _. ⌜ now (b .exit) ≡ pipeBytes width64 Forward (now (m .entry)) (now (b .entry)) ⌝ }
+{
+    let p = load(b);
+    store(b, step(p, m));
+}
+
+// The pipe in `b` before the block `m`, in its place.
+pub fn backward(b: &mut [u8], m: &[u8])
+    requires { ⌜ (length (now b) ≡ 128) × (length (now m) ≡ 128) ⌝ }
+    ensures { λ _. ⌜ now (b .exit) ≡ pipeBytes width64 Backward (now (m .entry)) (now (b .entry)) ⌝ }
+{
+    let p = load(b);
+    store(b, step_back(p, m));
 }
 
 // The pipe after all whole blocks of `s`, which are taken straight from it.

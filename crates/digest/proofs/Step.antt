@@ -1,30 +1,25 @@
--- One block, from the products and loads that code makes, at any width.
-use mathlib.Core.Path.{_≡_, ap, _∙_}
+-- One block, from the products that code makes, at any width.
+use mathlib.Core.Path.{_≡_, _∙_}
 use mathlib.Core.List.{List}
-use Prim.Native.Nat.{ℕ, _-_, _*_, _≤_}
-use native.Mathlib.Nat.{add-zero}
-use lib.ListN.{length, take, drop}
-use Rattle.memory.specs.Bytes.{wordsAt}
-use Rattle.memory.proofs.Bytes.{words-drop}
+use Prim.Native.Nat.{ℕ}
 use Rattle.quasigroup.specs.Tables.{Width}
 use Rattle.quasigroup.specs.Product.{leftHalf, rightHalf, joined, product}
-use Rattle.quasigroup.specs.Barred.{barredLeftHalf, barredProduct}
+use Rattle.quasigroup.specs.Vector.{reversed}
+use Rattle.quasigroup.specs.Barred.{barredLeftHalf}
 use Rattle.quasigroup.proofs.Quasigroup.{from-halves}
 use Rattle.quasigroup.proofs.Barred.{barred-product, barred-from-halves}
-use Rattle.digest.specs.Pipe.{Pipe}
-use Rattle.digest.specs.Step.{wordBytes, R, blockY, step}
-use Rattle.memory.proofs.Lists.{to-end}
+use Rattle.digest.specs.Step.{R}
 
 module _ (s : Width) where
-  -- the eight rows, the first and the seventh by the barred product
-  transformed : (C0 C1 X Y : List ℕ) {d1 d2 d3 d4 d5 d6 d7 d8 : List ℕ}
-      → d1 ≡ barredProduct s Y X → d2 ≡ product s d1 Y → d3 ≡ product s C0 d1 → d4 ≡ product s d3 d2 → d5 ≡ product s d3 C1
-      → d6 ≡ product s d4 d5 → d7 ≡ barredProduct s X d5 → d8 ≡ product s d7 d6
+  -- the eight rows
+  pub rows : (C0 C1 X Y : List ℕ) {d1 d2 d3 d4 d5 d6 d7 d8 : List ℕ}
+      → d1 ≡ product s (reversed Y) X → d2 ≡ product s d1 Y → d3 ≡ product s C0 d1 → d4 ≡ product s d3 d2 → d5 ≡ product s d3 C1
+      → d6 ≡ product s d4 d5 → d7 ≡ product s (reversed X) d5 → d8 ≡ product s d7 d6
       → record { first = d7; second = d8 } ≡ R s C0 C1 X Y
   unfolding R
-  transformed C0 C1 X Y e1 e2 e3 e4 e5 e6 e7 e8 = rw (e8, e7, barred-product s X _, e6, e5, e4, e3, e2, e1, barred-product s Y X)
+  rows C0 C1 X Y e1 e2 e3 e4 e5 e6 e7 e8 = rw (e8, e7, e6, e5, e4, e3, e2, e1)
 
-  -- the same from the halves of each product, as code makes them: D4 and D5 share a left half, D6 and D7 a right one
+  -- the same from the halves of each product, as code makes them: D1 and D7 are barred products, D4 and D5 share a left half, D6 and D7 a right one
   pub by-halves : (C0 C1 X Y : List ℕ) {l1 l2 l3 l4 l6 l7 l8 r1 r2 r3 r4 r5 r6 r8 d1 d2 d3 d4 d5 d6 d7 d8 : List ℕ}
       → l1 ≡ barredLeftHalf s Y → r1 ≡ rightHalf s X → d1 ≡ joined (s .bits) l1 r1
       → l2 ≡ leftHalf s d1 → r2 ≡ rightHalf s Y → d2 ≡ joined (s .bits) l2 r2
@@ -36,17 +31,5 @@ module _ (s : Width) where
       → l8 ≡ leftHalf s d7 → r8 ≡ rightHalf s d6 → d8 ≡ joined (s .bits) l8 r8
       → record { first = d7; second = d8 } ≡ R s C0 C1 X Y
   by-halves C0 C1 X Y l1 r1 e1 l2 r2 e2 l3 r3 e3 l4 r4 e4 r5 e5 r6 l6 e6 l7 e7 l8 r8 e8 =
-      transformed C0 C1 X Y (barred-from-halves s Y X l1 r1 e1) (from-halves s _ Y l2 r2 e2) (from-halves s C0 _ l3 r3 e3) (from-halves s _ _ l4 r4 e4)
-      (from-halves s _ C1 l4 r5 e5) (from-halves s _ _ l6 r6 e6) (barred-from-halves s X _ l7 r6 e7) (from-halves s _ _ l8 r8 e8)
-
-  -- the block's two vectors, the second from the part behind the first
-  pub stepped : (p : Pipe) (m : List ℕ) {x y : List ℕ} {r : Pipe} → 8 * wordBytes s ≤ length m
-      → x ≡ wordsAt (wordBytes s) 8 m 0 → y ≡ wordsAt (wordBytes s) 8 (take (length m - 8 * wordBytes s) (drop (8 * wordBytes s) m)) 0
-      → r ≡ R s (p .second) (p .first) x y → r ≡ step s p m
-  unfolding step
-  stepped p m {x} {y} h ex ey er =
-      let k : ℕ = wordBytes s in
-      let j : ℕ = 8 * k in
-      let f : y ≡ blockY s m =
-      ey ∙ ap (λ (l : List ℕ). wordsAt k 8 l 0) (to-end m j h) ∙ words-drop k 8 j m 0 ∙ ap (wordsAt k 8 m) (add-zero j) in
-      er ∙ rw (ex, f)
+      rows C0 C1 X Y (barred-from-halves s Y X l1 r1 e1 ∙ barred-product s Y X) (from-halves s _ Y l2 r2 e2) (from-halves s C0 _ l3 r3 e3) (from-halves s _ _ l4 r4 e4)
+      (from-halves s _ C1 l4 r5 e5) (from-halves s _ _ l6 r6 e6) (barred-from-halves s X _ l7 r6 e7 ∙ barred-product s X _) (from-halves s _ _ l8 r8 e8)

@@ -32,7 +32,12 @@ module _ (s : Width) where
   abbrev pub blockY : List ℕ → List ℕ
   blockY m = wordsAt (wordBytes s) 8 m (8 * wordBytes s)
 
-  -- The pipe after a block m. This line decides the order of the pipe's halves: C0 is its second vector and C1 its first. Document 01's prose
-  -- has them the other way round, which gives none of the sixteen values printed in 001, section 3.16; this order gives them, and 001 decides.
+  -- The pipe p after a block whose halves are X and Y. This line decides the order of the pipe's halves: C0 is its second vector and C1 its first.
+  -- Document 01's prose has them the other way round, which gives none of the sixteen values printed in 001, section 3.16; this order gives them, and
+  -- 001 decides.
+  abbrev pub forward : Pipe → List ℕ → List ℕ → Pipe
+  forward p X Y = R (p .second) (p .first) X Y
+
+  -- the pipe p after a block m in bytes
   unfoldable pub step : Pipe → List ℕ → Pipe
-  step p m = R (p .second) (p .first) (blockX m) (blockY m)
+  step p m = forward p (blockX m) (blockY m)

@@ -3,8 +3,8 @@
 ghost use Prim.Native.Nat.{_≤_, _<_};
 ghost use lib.ListN.{length};
 use answer::Answer;
-use block32::Pipe32;
-use block64::Pipe64;
+use compression32::Pipe32;
+use compression64::Pipe64;
 use libc::STDOUT_FILENO;
 use narrow::Narrow;
 use refusal::LIMIT;

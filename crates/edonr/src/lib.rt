@@ -9,7 +9,9 @@ ghost use Rattle.operands.specs.Operation.{answerFor, outputAfter};
 ghost use Rattle.digest.specs.Kind.{narrowKind, wideKind};
 ghost use Rattle.digest.specs.State.{openAnswer, opened, finishAnswer, finishOut};
 ghost use Rattle.digest.specs.OneCall.{oneCallAnswer, oneCallOut};
-ghost use Rattle.sheet.specs.Run.{Forward, Backward, runAnswer, runBytes};
+ghost use Rattle.invertible.specs.RoundTrip.{Forward, Backward};
+ghost use Rattle.sheet.specs.Run.{runAnswer, runBytes};
+ghost use Rattle.pipe.specs.Call.{blockAnswer, blockBytes};
 ghost use Rattle.narrow.specs.Outcomes.{narrowOf, hashOf as ofNarrow, fed as fedNarrow};
 ghost use Rattle.wide.specs.Outcomes.{wideOf, hashOf as ofWide, fed as fedWide};
 use narrow::Narrow;
@@ -67,6 +69,24 @@ pub extern "C" fn edonr_run_backward(width: u32, vectors: &mut [u8], sheet: &[u8
     ensures { λ _. ⌜ now (vectors .exit) ≡ runBytes Backward width (now (sheet .entry)) (now (vectors .entry)) ⌝ }
 {
     answer::number(run::run_backward(width, vectors, sheet))
+}
+
+// The pipe after the block, in its place.
+#[no_mangle]
+pub extern "C" fn edonr_block_forward(width: u32, pipe: &mut [u8], block: &[u8]) -> u64
+    ensures { λ r. ⌜ r ≡ numberOf (blockAnswer width (now (block .entry)) (now (pipe .entry))) ⌝ }
+    ensures { λ _. ⌜ now (pipe .exit) ≡ blockBytes Forward width (now (block .entry)) (now (pipe .entry)) ⌝ }
+{
+    answer::number(lent_pipe::forward(width, pipe, block))
+}
+
+// The pipe before the block, in its place: it undoes a step forward.
+#[no_mangle]
+pub extern "C" fn edonr_block_backward(width: u32, pipe: &mut [u8], block: &[u8]) -> u64
+    ensures { λ r. ⌜ r ≡ numberOf (blockAnswer width (now (block .entry)) (now (pipe .entry))) ⌝ }
+    ensures { λ _. ⌜ now (pipe .exit) ≡ blockBytes Backward width (now (block .entry)) (now (pipe .entry)) ⌝ }
+{
+    answer::number(lent_pipe::backward(width, pipe, block))
 }
 
 // A narrow hash of `size` bits is opened in `hash`, whatever stood there; a refusal leaves what stood there.

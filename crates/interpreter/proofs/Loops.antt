@@ -13,7 +13,8 @@ use Rattle.sheet.specs.declared.Read.the-variants.{Got, Fault, End}
 use Rattle.sheet.specs.Read.{placeCount, readAt}
 use Rattle.sheet.specs.Sheet.{scanFrom}
 use Rattle.sheet.specs.Effect.{effect, undone}
-use Rattle.sheet.specs.Run.{Forward, Backward, stepWith, step, steps}
+use Rattle.invertible.specs.RoundTrip.{Forward, Backward}
+use Rattle.sheet.specs.Run.{stepWith, step, steps}
 use Rattle.sheet.proofs.Rest.{rest-got, rest-fault, rest-end}
 
 module _ (w : ℕ) (s : List ℕ) (i : ℕ) (v : List (List ℕ)) where

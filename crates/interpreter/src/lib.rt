@@ -7,7 +7,8 @@ ghost use lib.ListN.{length, take};
 ghost use Rattle.quasigroup.specs.Tables.{knownWidth};
 ghost use Rattle.sheet.specs.Read.{placeCount};
 ghost use Rattle.sheet.specs.Sheet.{scanFrom};
-ghost use Rattle.sheet.specs.Run.{Forward, Backward, step, steps, vectorsIn};
+ghost use Rattle.invertible.specs.RoundTrip.{Forward, Backward};
+ghost use Rattle.sheet.specs.Run.{step, steps, vectorsIn};
 use sheet::Read;
 
 fn from_u16(x: u16) -> usize

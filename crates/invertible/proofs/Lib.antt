@@ -1,1 +1,2 @@
 pub mod Invertible
+pub mod RoundTrip

@@ -86,6 +86,17 @@ pub bytesOf-are : (k : ℕ) (v : List ℕ) → Bytes (bytesOf k v)
 bytesOf-are k [] i = omega arith
 bytesOf-are k (x ∷ v) i = append-bytes (bytes k x) (bytesOf k v) (bytes-are k x) (bytesOf-are k v) i
 
+-- ---- parts of bytes are bytes
+
+pub take-bytes : (n : ℕ) (s : List ℕ) → Bytes s → Bytes (take n s)
+take-bytes zero s b i = omega arith
+take-bytes (suc n) [] b i = omega arith
+take-bytes (suc n) (x ∷ s) b zero = b 0
+take-bytes (suc n) (x ∷ s) b (suc i) = take-bytes n s (λ j. b (suc j)) i
+
+pub drop-bytes : (n : ℕ) (s : List ℕ) → Bytes s → Bytes (drop n s)
+drop-bytes n s b i = rw (getD-drop n s i 0) (b (n + i))
+
 -- ---- words in the part of s that starts at j
 
 pub word-drop : (k j : ℕ) (s : List ℕ) (i : ℕ) → wordAt k (drop j s) i ≡ wordAt k s (j + i)

@@ -1,4 +1,5 @@
 pub mod Lists
 pub mod Eight
 pub mod Bytes
+pub mod Parts
 pub mod Copy

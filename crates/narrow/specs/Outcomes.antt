@@ -4,7 +4,7 @@ use mathlib.Core.List.{List}
 use Prim.Native.Nat.{ℕ}
 use Rattle.digest.specs.Kind.{narrowKind}
 use Rattle.digest.specs.State.{Hash, openAnswer, openState, feedAnswer, feedState}
-use Rattle.block32.specs.Pipes.{pipe32}
+use Rattle.compression32.specs.Pipes.{pipe32}
 use Rattle.narrow.specs.declared.Narrow.{Narrow}
 use Rattle.narrow.specs.declared.Outcome.{Outcome}
 

@@ -9,10 +9,10 @@ ghost use Rattle.digest.specs.Step.{step};
 ghost use Rattle.digest.specs.Kind.{narrowKind};
 ghost use Rattle.digest.specs.State.{closed, finishAnswer, finishOut};
 ghost use Rattle.digest.specs.OneCall.{digestAnswer, digestOut};
-ghost use Rattle.block32.specs.Pipes.{pipe32};
+ghost use Rattle.compression32.specs.Pipes.{pipe32};
 ghost use Rattle.narrow.specs.Outcomes.{hashOf, opened, fed};
 use answer::Answer;
-use block32::Pipe32;
+use compression32::Pipe32;
 
 // A hash in progress. Of `waiting` the first `total` modulo 64 bytes are waiting, which is document 01's word: fed, and not yet part of a block.
 // `size` has 64 bits so that C's layout has no padding, and these fields are every byte of the struct.

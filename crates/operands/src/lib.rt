@@ -9,7 +9,7 @@ use answer::Answer;
 use answer::Refusal;
 
 // Whether the width is 32 or 64.
-fn known_width(width: u32) -> bool
+pub fn known_width(width: u32) -> bool
     ensures { λ r. ⌜ r ≡ knownWidth width ⌝ }
 {
     if width == 32 {
@@ -18,7 +18,8 @@ fn known_width(width: u32) -> bool
     width == 64
 }
 
-fn operands_fit(w: usize, x: &[u8], y: &[u8]) -> bool
+// Whether both operands are exactly `w` bytes.
+pub fn operands_fit(w: usize, x: &[u8], y: &[u8]) -> bool
     ensures { λ r. ⌜ r ≡ eqb (length (now (x .entry))) w && eqb (length (now (y .entry))) w ⌝ }
 {
     if x.len() != w {

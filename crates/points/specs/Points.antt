@@ -12,7 +12,8 @@ use Rattle.digest.specs.Kind.{narrowKind, wideKind}
 use Rattle.sheet.specs.Read.{readAmong}
 use Rattle.sheet.specs.Sheet.{planAmong}
 use Rattle.sheet.specs.SheetAnswer.{sheetAnswerAmong}
-use Rattle.sheet.specs.Run.{Forward, vectorsFrom, runAnswer, runBytes}
+use Rattle.invertible.specs.RoundTrip.{Forward}
+use Rattle.sheet.specs.Run.{vectorsFrom, runAnswer, runBytes}
 
 abbrev oneToEight : List ℕ
 oneToEight = 1 ∷ 2 ∷ 3 ∷ 4 ∷ 5 ∷ 6 ∷ 7 ∷ 8 ∷ []

@@ -8,11 +8,11 @@ use Rattle.quasigroup.specs.Product.{product}
 use Rattle.quasigroup.specs.Division.{leftDivision, rightDivision}
 use Rattle.quasigroup.specs.Vector.{Below, Vector}
 
--- of the lists for which P holds, x is the one that f takes to b
-pub record OnlySolution (P : List ℕ → Type 0) (f : List ℕ → List ℕ) (b x : List ℕ) : Type 0 where
+-- of those for which P holds, x is the one that f takes to b
+pub record OnlySolution {A : Type 0} (P : A → Type 0) (f : A → A) (b x : A) : Type 0 where
   pub holds : P x
   pub solves : f x ≡ b
-  pub unique : (z : List ℕ) → P z → f z ≡ b → z ≡ x
+  pub unique : (z : A) → P z → f z ≡ b → z ≡ x
 
 pub record Quasigroup (s : Width) : Type 0 where
   pub closed : (x y : List ℕ) → Vector (s .bits) x → Vector (s .bits) y → Vector (s .bits) (product s x y)

@@ -12,7 +12,8 @@ use Rattle.sheet.specs.declared.Summary.the-variants.{Whole}
 use Rattle.sheet.specs.Read.{placeCount}
 use Rattle.sheet.specs.Sheet.{Plan, scanFrom, planOf}
 use Rattle.sheet.specs.Work.{summary}
-use Rattle.sheet.specs.Run.{Forward, Backward, steps, vectorsIn, runAnswer, runBytes}
+use Rattle.invertible.specs.RoundTrip.{Forward, Backward}
+use Rattle.sheet.specs.Run.{steps, vectorsIn, runAnswer, runBytes}
 use Rattle.sheet.proofs.Checked.{whole-scanned}
 use Rattle.sheet.proofs.Ran.{ran}
 

@@ -34,7 +34,8 @@ use Rattle.sheet.specs.Read.{sizeOf, got, twoPlaceCommand, twoPlacesAmon
 use Rattle.sheet.specs.Sheet.{Sound, Plan, refused, behind, continue, scanAmong, planAmong}
 use Rattle.sheet.specs.Effect.{at, vectorAt, effect, undone}
 use Rattle.sheet.specs.Work.{unitsIn, totalUnitsAmong}
-use Rattle.sheet.specs.Run.{Direction, Forward, Backward, order, stepWith, stepAmong, stepsAmong, vectorsFrom, vectorBytes}
+use Rattle.invertible.specs.RoundTrip.{Direction, Forward, Backward}
+use Rattle.sheet.specs.Run.{order, stepWith, stepAmong, stepsAmong, vectorsFrom, vectorBytes}
 use Rattle.sheet.specs.Run.{runVectorsAmong, runAnswerAmong, runBytesAmong}
 use Rattle.sheet.specs.Sound.{SoundPlaces, SoundCommandAmong, SoundRead}
 use Rattle.sheet.specs.Compatible.{Compatible}

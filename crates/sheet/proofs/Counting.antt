@@ -23,7 +23,7 @@ use Rattle.sheet.specs.Units.{units}
 use Rattle.sheet.specs.Read.{placeCount, sizeOf, got, twoPlaces, onePlace, readAmong, readAt}
 use Rattle.sheet.specs.Sheet.{Sound, planOf}
 use Rattle.sheet.specs.Work.{unitsIn, unitsAt, totalUnits}
-use Rattle.sheet.specs.Run.{Direction, Forward, Backward}
+use Rattle.invertible.specs.RoundTrip.{Direction, Forward, Backward}
 use Rattle.sheet.specs.Counting.{ReadUnits, ReadingTells, UndoneAlike, unitsDone, runUnits, RunUnits, RunsCount}
 use Rattle.sheet.proofs.SheetAnswer.{by-tests}
 use Rattle.sheet.proofs.Checked.{sound-units}

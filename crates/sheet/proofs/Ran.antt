@@ -18,7 +18,8 @@ use Rattle.sheet.specs.declared.Summary.the-variants.{Whole, Faulty}
 use Rattle.sheet.specs.Read.{placeCount}
 use Rattle.sheet.specs.Sheet.{planOf}
 use Rattle.sheet.specs.Work.{summary}
-use Rattle.sheet.specs.Run.{Direction, runVectors, vectorsIn, vectorBytes, runAnswer, runBytes}
+use Rattle.invertible.specs.RoundTrip.{Direction}
+use Rattle.sheet.specs.Run.{runVectors, vectorsIn, vectorBytes, runAnswer, runBytes}
 use Rattle.sheet.proofs.SheetAnswer as Tests
 use Rattle.sheet.proofs.Checked.{checked, faulted}
 use Rattle.sheet.proofs.Lent.{bytes-vectors}

@@ -1,7 +1,7 @@
 -- The round trip of a list of runs.
 use mathlib.Core.Path.{_≡_, refl, sym, ap, _∙_}
 use mathlib.Core.Bool.{Bool}
-use mathlib.Core.List.{List, reverse}
+use mathlib.Core.List.{List}
 use Prim.Native.Nat.{ℕ, _*_}
 use borrow.Author.Tests.{eqb-true}
 use lib.Dec.{eqb}
@@ -10,15 +10,16 @@ use Rattle.answer.specs.declared.Answer.{Answer}
 use Rattle.answer.specs.declared.Answer.the-variants.{Done}
 use Rattle.answer.specs.Refuse.{outcome}
 use Rattle.invertible.specs.Invertible.{Invertible}
-use Rattle.invertible.proofs.Invertible.{stepped-map, outputs-map, reversal-undoes, outputs-back}
+use Rattle.invertible.proofs.RoundTrip.{round-trip}
 use Rattle.quasigroup.proofs.Widths.{Bytewise, bytewise}
 use Rattle.memory.specs.Bytes.{Bytes}
 use Rattle.sheet.specs.Read.{placeCount}
 use Rattle.sheet.specs.Sheet.{planOf}
 use Rattle.sheet.specs.Work.{totalUnits}
 use Rattle.sheet.specs.SheetAnswer.{sheetAnswer}
-use Rattle.sheet.specs.Run.{Direction, other, vectorsIn, vectorBytes, runVectors, runAnswer, runBytes}
-use Rattle.sheet.specs.RoundTrip.{Run, answerTo, after, afterAll, exchanged, RoundTrips}
+use Rattle.invertible.specs.RoundTrip.{Direction, other}
+use Rattle.sheet.specs.Run.{vectorsIn, vectorBytes, runVectors, runAnswer, runBytes}
+use Rattle.sheet.specs.RoundTrip.{Run, answerTo, after, exchanged, RoundTrips}
 use Rattle.sheet.proofs.Lent.{bytes-of-vectors, state-length, vectors-bytes, bytes-vectors, lent-state}
 use Rattle.sheet.proofs.SheetAnswer.{Passed, refused-or}
 use Rattle.sheet.proofs.Undoing.{run-state, run-back}
@@ -87,10 +88,4 @@ same-answers : (r : Run) (b : List ℕ) → Bytes (r .sheet) → Bytes b → ans
 same-answers r b hr hb = same-answer (r .direction) (r .width) (r .sheet) hr b hb
 
 pub round-trips : RoundTrips
-round-trips l hl b hb =
-    record {
-      bytes = stepped-map after exchanged (reverse l) (afterAll l b) ∙ reversal-undoes invertible hl b hb;
-      same =
-          outputs-map after answerTo exchanged (reverse l) (afterAll l b)
-          ∙ outputs-back invertible answerTo (λ r. answerTo (exchanged r)) same-answers hl b hb;
-    }
+round-trips l hl b hb = round-trip exchanged after invertible answerTo same-answers hl b hb

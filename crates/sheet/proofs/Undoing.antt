@@ -22,7 +22,8 @@ use Rattle.sheet.specs.declared.Read.the-variants.{Got, Fault, End}
 use Rattle.sheet.specs.Read.{readAmong}
 use Rattle.sheet.specs.Sheet.{planAmong}
 use Rattle.sheet.specs.Effect.{at, vectorAt, effect, undone}
-use Rattle.sheet.specs.Run.{Direction, Forward, Backward, other, order, stepWith, stepAmong, stepsAmong, runVectorsAmong}
+use Rattle.invertible.specs.RoundTrip.{Direction, Forward, Backward, other}
+use Rattle.sheet.specs.Run.{order, stepWith, stepAmong, stepsAmong, runVectorsAmong}
 use Rattle.sheet.specs.Sound.{SoundPlaces, SoundCommandAmong, SoundRead}
 use Rattle.sheet.proofs.Sound.{read-sound}
 use Rattle.sheet.proofs.Lent.{State, in-range, set-state}

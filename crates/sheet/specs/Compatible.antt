@@ -10,7 +10,8 @@ use Rattle.invertible.specs.Invertible.{Each}
 use Rattle.memory.specs.Bytes.{Bytes}
 use Rattle.sheet.specs.Read.{readAmong, readAt}
 use Rattle.sheet.specs.Sheet.{Sound, planAmong, planOf}
-use Rattle.sheet.specs.Run.{Direction, runAnswerAmong, runBytesAmong, runAnswer, runBytes}
+use Rattle.invertible.specs.RoundTrip.{Direction}
+use Rattle.sheet.specs.Run.{runAnswerAmong, runBytesAmong, runAnswer, runBytes}
 
 -- whichever call reads the sheet s finds the same offsets and no fault, and at each of them the same command
 pub record ReadAlike (w : ℕ) (s : List ℕ) : Type 0 where

@@ -13,7 +13,8 @@ use Rattle.sheet.specs.Units.{units}
 use Rattle.sheet.specs.Read.{readAt}
 use Rattle.sheet.specs.Sheet.{planOf}
 use Rattle.sheet.specs.Effect.{undone}
-use Rattle.sheet.specs.Run.{Direction, turned, order, runAnswer}
+use Rattle.invertible.specs.RoundTrip.{Direction}
+use Rattle.sheet.specs.Run.{turned, order, runAnswer}
 
 -- of a command that was read, with opcode b: 0 units for 05 and 06, and 1 for every other
 pub record ReadUnits (b : ℕ) (d : Decoded) : Type 0 where

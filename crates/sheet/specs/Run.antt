@@ -8,6 +8,7 @@ use Rattle.answer.specs.declared.Answer.{Answer}
 use Rattle.answer.specs.declared.Answer.the-variants.{Done}
 use Rattle.answer.specs.Refuse.{outcome}
 use Rattle.invertible.specs.Invertible.{stepped}
+use Rattle.invertible.specs.RoundTrip.{Direction, Forward, Backward}
 use Rattle.memory.specs.Bytes.{bytesOf}
 use Rattle.sheet.specs.declared.Command.{Command}
 use Rattle.sheet.specs.declared.Read.{Read}
@@ -17,14 +18,6 @@ use Rattle.sheet.specs.Sheet.{planAmong}
 use Rattle.sheet.specs.Effect.{vectorAt, effect, undone}
 use Rattle.sheet.specs.Work.{totalUnitsAmong}
 use Rattle.sheet.specs.SheetAnswer.{sheetAnswerAmong}
-
-pub data Direction : Type 0 where
-  Forward : Direction
-  Backward : Direction
-
-abbrev pub other : Direction → Direction
-other Forward = Backward
-other Backward = Forward
 
 -- a command as it is done on a run in the direction: itself, or the command that undoes it
 abbrev pub turned : Direction → Command → Command

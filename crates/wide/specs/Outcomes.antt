@@ -4,7 +4,7 @@ use mathlib.Core.List.{List}
 use Prim.Native.Nat.{ℕ}
 use Rattle.digest.specs.Kind.{wideKind}
 use Rattle.digest.specs.State.{Hash, openAnswer, openState, feedAnswer, feedState}
-use Rattle.block64.specs.Pipes.{pipe64}
+use Rattle.compression64.specs.Pipes.{pipe64}
 use Rattle.wide.specs.declared.Wide.{Wide}
 use Rattle.wide.specs.declared.Outcome.{Outcome}
 

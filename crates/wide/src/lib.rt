@@ -9,10 +9,10 @@ ghost use Rattle.digest.specs.Step.{step};
 ghost use Rattle.digest.specs.Kind.{wideKind};
 ghost use Rattle.digest.specs.State.{closed, finishAnswer, finishOut};
 ghost use Rattle.digest.specs.OneCall.{digestAnswer, digestOut};
-ghost use Rattle.block64.specs.Pipes.{pipe64};
+ghost use Rattle.compression64.specs.Pipes.{pipe64};
 ghost use Rattle.wide.specs.Outcomes.{hashOf, opened, fed};
 use answer::Answer;
-use block64::Pipe64;
+use compression64::Pipe64;
 
 // A hash in progress. Of `waiting` the first `total` modulo 128 bytes are waiting, which is document 01's word: fed, and not yet part of a block.
 // `size` has 64 bits so that C's layout has no padding, and these fields are every byte of the struct.

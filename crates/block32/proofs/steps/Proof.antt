@@ -8,7 +8,7 @@ use Rattle.quasigroup.specs.Tables.{width32}
 use Rattle.digest.specs.Blocks.{iterated}
 use Rattle.digest.specs.Step.{step}
 use Rattle.digest.proofs.Blocks.{iterated-turn, iterated-all}
-use Rattle.block32.specs.Pipes.{pipe32}
+use Rattle.compression32.specs.Pipes.{pipe32}
 use Rattle.block32.proofs.steps.Statement.{statement}
 use Rattle.block32.proofs.steps.Tie as tie
 

@@ -8,7 +8,7 @@ use Rattle.quasigroup.specs.Tables.{width64}
 use Rattle.digest.specs.Blocks.{iterated}
 use Rattle.digest.specs.Step.{step}
 use Rattle.digest.proofs.Blocks.{iterated-turn, iterated-all}
-use Rattle.block64.specs.Pipes.{pipe64}
+use Rattle.compression64.specs.Pipes.{pipe64}
 use Rattle.block64.proofs.steps.Statement.{statement}
 use Rattle.block64.proofs.steps.Tie as tie
 

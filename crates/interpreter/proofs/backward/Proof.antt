@@ -8,7 +8,8 @@ use denote.Ref.{now}
 use lib.ListN.{length, take}
 use Rattle.quasigroup.specs.Tables.{knownWidth}
 use Rattle.sheet.specs.Read.{placeCount}
-use Rattle.sheet.specs.Run.{Backward, steps, vectorsIn}
+use Rattle.invertible.specs.RoundTrip.{Backward}
+use Rattle.sheet.specs.Run.{steps, vectorsIn}
 use Rattle.interpreter.proofs.Loops.{backward-more}
 use Rattle.interpreter.proofs.backward.Statement.{statement}
 use Rattle.interpreter.proofs.backward.Tie as tie

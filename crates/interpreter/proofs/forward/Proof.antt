@@ -8,7 +8,8 @@ use lib.ListN.{length}
 use Rattle.quasigroup.specs.Tables.{knownWidth}
 use Rattle.sheet.specs.Read.{placeCount}
 use Rattle.sheet.specs.Sheet.{scanFrom}
-use Rattle.sheet.specs.Run.{Forward, steps, vectorsIn}
+use Rattle.invertible.specs.RoundTrip.{Forward}
+use Rattle.sheet.specs.Run.{steps, vectorsIn}
 use Rattle.sheet.proofs.Sound.{got-sound}
 use Rattle.interpreter.proofs.Loops.{forward-more, forward-fault, forward-end}
 use Rattle.interpreter.proofs.forward.Statement.{statement}

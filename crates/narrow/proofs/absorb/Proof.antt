@@ -8,7 +8,7 @@ use lib.Seq.{length-take-le}
 use Rattle.quasigroup.specs.Tables.{width32}
 use Rattle.digest.specs.Step.{step}
 use Rattle.digest.proofs.Absorb.{absorb-none, absorb-few, absorb-many}
-use Rattle.block32.specs.Pipes.{pipe32}
+use Rattle.compression32.specs.Pipes.{pipe32}
 use Rattle.narrow.proofs.absorb.Statement.{statement}
 use Rattle.narrow.proofs.absorb.Tie as tie
 

@@ -4,7 +4,7 @@ use denote.Ref.{now}
 use lib.Seq.{length-take-le}
 use Rattle.digest.specs.Kind.{narrowKind}
 use Rattle.digest.proofs.Cases.{closed-by}
-use Rattle.block32.specs.Pipes.{pipe32}
+use Rattle.compression32.specs.Pipes.{pipe32}
 use Rattle.narrow.proofs.close.Statement.{statement}
 use Rattle.narrow.proofs.close.Tie as tie
 

@@ -7,7 +7,7 @@ use denote.Ref.{now}
 use lib.ListN.{length, replicate}
 use Rattle.answer.proofs.Tests.{goes-on, stops}
 use Rattle.sheet.specs.Read.{placeCount}
-use Rattle.sheet.specs.Run.{Backward}
+use Rattle.invertible.specs.RoundTrip.{Backward}
 use Rattle.sheet.proofs.Checked.{whole-offsets}
 use Rattle.sheet.proofs.Ran.{size-refused, fault-refused}
 use Rattle.run.proofs.Whole.{backward-whole}

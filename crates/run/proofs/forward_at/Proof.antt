@@ -7,7 +7,7 @@ use denote.Ref.{now}
 use lib.ListN.{length}
 use Rattle.answer.proofs.Tests.{goes-on, stops}
 use Rattle.sheet.specs.Read.{placeCount}
-use Rattle.sheet.specs.Run.{Forward}
+use Rattle.invertible.specs.RoundTrip.{Forward}
 use Rattle.sheet.proofs.Ran.{size-refused, fault-refused}
 use Rattle.run.proofs.Whole.{forward-whole}
 use Rattle.run.proofs.forward_at.Statement.{statement}

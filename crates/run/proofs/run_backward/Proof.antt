@@ -1,6 +1,6 @@
 use borrow.Author.Needs.{needs}
 use denote.Ref.{now}
-use Rattle.sheet.specs.Run.{Backward}
+use Rattle.invertible.specs.RoundTrip.{Backward}
 use Rattle.sheet.proofs.Ran.{width-refused}
 use Rattle.run.proofs.run_backward.Statement.{statement}
 use Rattle.run.proofs.run_backward.Tie as tie

@@ -1,6 +1,6 @@
 use borrow.Author.Needs.{needs}
 use denote.Ref.{now}
-use Rattle.sheet.specs.Run.{Forward}
+use Rattle.invertible.specs.RoundTrip.{Forward}
 use Rattle.sheet.proofs.Ran.{width-refused}
 use Rattle.run.proofs.run_forward.Statement.{statement}
 use Rattle.run.proofs.run_forward.Tie as tie

@@ -8,7 +8,7 @@ use lib.Seq.{length-take-le}
 use Rattle.quasigroup.specs.Tables.{width64}
 use Rattle.digest.specs.Step.{step}
 use Rattle.digest.proofs.Absorb.{absorb-none, absorb-few, absorb-many}
-use Rattle.block64.specs.Pipes.{pipe64}
+use Rattle.compression64.specs.Pipes.{pipe64}
 use Rattle.wide.proofs.absorb.Statement.{statement}
 use Rattle.wide.proofs.absorb.Tie as tie
 

@@ -4,7 +4,7 @@ use denote.Ref.{now}
 use lib.Seq.{length-take-le}
 use Rattle.digest.specs.Kind.{wideKind}
 use Rattle.digest.proofs.Cases.{closed-by}
-use Rattle.block64.specs.Pipes.{pipe64}
+use Rattle.compression64.specs.Pipes.{pipe64}
 use Rattle.wide.proofs.close.Statement.{statement}
 use Rattle.wide.proofs.close.Tie as tie
 

@@ -1,6 +1,0 @@
--- The code's pipe as the definitions' pipe. Open contracts cite it through `hashOf` (wide/specs/Outcomes.antt).
-use Rattle.digest.specs.Pipe.{Pipe}
-use Rattle.block64.specs.declared.Pipe64.{Pipe64}
-
-abbrev pub pipe64 : Pipe64 → Pipe
-pipe64 p = record { first = p .first; second = p .second }

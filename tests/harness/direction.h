@@ -1,0 +1,19 @@
+/*
+ * The two directions of a run of a sheet, and of a step of one block.
+ */
+#ifndef HARNESS_DIRECTION_H
+#define HARNESS_DIRECTION_H
+
+enum direction { FORWARD, BACKWARD, DIRECTIONS };
+
+static inline enum direction opposite(enum direction direction)
+{
+    return direction == FORWARD ? BACKWARD : FORWARD;
+}
+
+static inline const char *direction_name(enum direction direction)
+{
+    return direction == FORWARD ? "forward" : "backward";
+}
+
+#endif
