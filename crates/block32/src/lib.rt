@@ -39,10 +39,7 @@ fn load(b: &[u8]) -> Pipe32
 {
     let first = memory32::load_vector(b);
     let second = memory32::load_vector(&b[32..]);
-    Pipe32 {
-        first,
-        second,
-    }
+    Pipe32 { first, second }
 }
 
 // The sixteen words of `p`, as all of `b`.

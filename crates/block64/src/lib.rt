@@ -39,10 +39,7 @@ fn load(b: &[u8]) -> Pipe64
 {
     let first = memory64::load_vector(b);
     let second = memory64::load_vector(&b[64..]);
-    Pipe64 {
-        first,
-        second,
-    }
+    Pipe64 { first, second }
 }
 
 // The sixteen words of `p`, as all of `b`.

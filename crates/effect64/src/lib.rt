@@ -77,7 +77,8 @@ fn divide_left(vectors: &mut [u8], d: usize, s: usize)
 {
     let a = get(vectors, s);
     let b = get(vectors, d);
-    put(vectors, d, division64::left_division(a, b));
+    let z = division64::separated(b, half64::left_half(a));
+    put(vectors, d, division64::right_undone(z));
 }
 
 // The vector at place `d` is divided by the one at place `s` from the right.
@@ -88,7 +89,8 @@ fn divide_right(vectors: &mut [u8], d: usize, s: usize)
 {
     let b = get(vectors, d);
     let a = get(vectors, s);
-    put(vectors, d, division64::right_division(b, a));
+    let z = division64::separated(b, half64::right_half(a));
+    put(vectors, d, division64::left_undone(z));
 }
 
 // The vector at place `d` is divided by the vector at offset `k` of the sheet from the left.
@@ -99,7 +101,8 @@ fn divide_by(vectors: &mut [u8], d: usize, sheet: &[u8], k: usize)
 {
     let a = vector_at(sheet, k);
     let b = get(vectors, d);
-    put(vectors, d, division64::left_division(a, b));
+    let z = division64::separated(b, half64::left_half(a));
+    put(vectors, d, division64::right_undone(z));
 }
 
 // The vectors at places `d` and `s` change over.
