@@ -232,9 +232,9 @@ static unsigned check_list(const struct list *list)
         accepted += !is_refusal(answers[i]);
     }
     for (unsigned i = list->count; i > 0; i--) {
-        struct step home = list->steps[i - 1];
-        home.direction = opposite(home.direction);
-        uint64_t answer = check_step_call(&home, pipe, list->pipe_len);
+        struct step back = list->steps[i - 1];
+        back.direction = opposite(back.direction);
+        uint64_t answer = check_step_call(&back, pipe, list->pipe_len);
         check(answer == answers[i - 1], "step %u answered %" PRIx64 " and then %" PRIx64,
               i - 1, answers[i - 1], answer);
     }

@@ -1,3 +1,4 @@
 pub mod Tests
 pub mod Refuse
+pub mod Outcome
 pub mod Injective

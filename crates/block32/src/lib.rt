@@ -6,11 +6,11 @@ ghost use lib.ListN.{length, drop};
 ghost use Rattle.quasigroup.specs.Tables.{width32};
 ghost use Rattle.digest.specs.Blocks.{compressed, lastBytes};
 ghost use Rattle.digest.specs.Pipe.{written};
-ghost use Rattle.digest.specs.Step.{blockX, blockY, step};
+ghost use Rattle.digest.specs.Step.{step};
 ghost use Rattle.digest.specs.Kind.{narrowKind};
 ghost use Rattle.invertible.specs.RoundTrip.{Forward, Backward};
-ghost use Rattle.pipe.specs.Backward.{backward};
-ghost use Rattle.pipe.specs.Call.{pipeIn, pipeBytes};
+ghost use Rattle.pipe.specs.Backward.{stepBack};
+ghost use Rattle.pipe.specs.Call.{pipeIn, movedBytes};
 ghost use Rattle.compression32.specs.Pipes.{pipe32};
 use compression32::Pipe32;
 
@@ -32,7 +32,7 @@ pub fn start(size: u32) -> Pipe32
     }
 }
 
-// The sixteen words of `b`: of a pipe, or of a block as its halves.
+// The sixteen words of `b`, of a pipe or of a block, whose halves are in the same form.
 fn load(b: &[u8]) -> Pipe32
     requires { ⌜ length (now b) ≡ 64 ⌝ }
     ensures { λ r. ⌜ pipe32 r ≡ pipeIn width32 (now (b .entry)) ⌝ }
@@ -67,7 +67,7 @@ pub fn step(p: Pipe32, m: &[u8]) -> Pipe32
 // The pipe before the block `m`.
 fn step_back(p: Pipe32, m: &[u8]) -> Pipe32
     requires { ⌜ length (now m) ≡ 64 ⌝ }
-    ensures { λ r. ⌜ pipe32 r ≡ backward width32 (pipe32 p) (blockX width32 (now (m .entry))) (blockY width32 (now (m .entry))) ⌝ }
+    ensures { λ r. ⌜ pipe32 r ≡ stepBack width32 (pipe32 p) (now (m .entry)) ⌝ }
 {
     let b = load(m);
     let x = b.first;
@@ -76,18 +76,18 @@ fn step_back(p: Pipe32, m: &[u8]) -> Pipe32
 }
 
 // The pipe in `b` after the block `m`, in its place.
-pub fn forward(b: &mut [u8], m: &[u8])
+pub fn step_in(b: &mut [u8], m: &[u8])
     requires { ⌜ (length (now b) ≡ 64) × (length (now m) ≡ 64) ⌝ }
-    ensures { λ _. ⌜ now (b .exit) ≡ pipeBytes width32 Forward (now (m .entry)) (now (b .entry)) ⌝ }
+    ensures { λ _. ⌜ now (b .exit) ≡ movedBytes width32 Forward (now (m .entry)) (now (b .entry)) ⌝ }
 {
     let p = load(b);
     store(b, step(p, m));
 }
 
 // The pipe in `b` before the block `m`, in its place.
-pub fn backward(b: &mut [u8], m: &[u8])
+pub fn step_back_in(b: &mut [u8], m: &[u8])
     requires { ⌜ (length (now b) ≡ 64) × (length (now m) ≡ 64) ⌝ }
-    ensures { λ _. ⌜ now (b .exit) ≡ pipeBytes width32 Backward (now (m .entry)) (now (b .entry)) ⌝ }
+    ensures { λ _. ⌜ now (b .exit) ≡ movedBytes width32 Backward (now (m .entry)) (now (b .entry)) ⌝ }
 {
     let p = load(b);
     store(b, step_back(p, m));

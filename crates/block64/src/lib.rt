@@ -6,11 +6,11 @@ ghost use lib.ListN.{length, drop};
 ghost use Rattle.quasigroup.specs.Tables.{width64};
 ghost use Rattle.digest.specs.Blocks.{compressed, lastBytes};
 ghost use Rattle.digest.specs.Pipe.{written};
-ghost use Rattle.digest.specs.Step.{blockX, blockY, step};
+ghost use Rattle.digest.specs.Step.{step};
 ghost use Rattle.digest.specs.Kind.{wideKind};
 ghost use Rattle.invertible.specs.RoundTrip.{Forward, Backward};
-ghost use Rattle.pipe.specs.Backward.{backward};
-ghost use Rattle.pipe.specs.Call.{pipeIn, pipeBytes};
+ghost use Rattle.pipe.specs.Backward.{stepBack};
+ghost use Rattle.pipe.specs.Call.{pipeIn, movedBytes};
 ghost use Rattle.compression64.specs.Pipes.{pipe64};
 use compression64::Pipe64;
 
@@ -32,7 +32,7 @@ pub fn start(size: u32) -> Pipe64
     }
 }
 
-// The sixteen words of `b`: of a pipe, or of a block as its halves.
+// The sixteen words of `b`, of a pipe or of a block, whose halves are in the same form.
 fn load(b: &[u8]) -> Pipe64
     requires { ⌜ length (now b) ≡ 128 ⌝ }
     ensures { λ r. ⌜ pipe64 r ≡ pipeIn width64 (now (b .entry)) ⌝ }
@@ -67,7 +67,7 @@ pub fn step(p: Pipe64, m: &[u8]) -> Pipe64
 // The pipe before the block `m`.
 fn step_back(p: Pipe64, m: &[u8]) -> Pipe64
     requires { ⌜ length (now m) ≡ 128 ⌝ }
-    ensures { λ r. ⌜ pipe64 r ≡ backward width64 (pipe64 p) (blockX width64 (now (m .entry))) (blockY width64 (now (m .entry))) ⌝ }
+    ensures { λ r. ⌜ pipe64 r ≡ stepBack width64 (pipe64 p) (now (m .entry)) ⌝ }
 {
     let b = load(m);
     let x = b.first;
@@ -76,18 +76,18 @@ fn step_back(p: Pipe64, m: &[u8]) -> Pipe64
 }
 
 // The pipe in `b` after the block `m`, in its place.
-pub fn forward(b: &mut [u8], m: &[u8])
+pub fn step_in(b: &mut [u8], m: &[u8])
     requires { ⌜ (length (now b) ≡ 128) × (length (now m) ≡ 128) ⌝ }
-    ensures { λ _. ⌜ now (b .exit) ≡ pipeBytes width64 Forward (now (m .entry)) (now (b .entry)) ⌝ }
+    ensures { λ _. ⌜ now (b .exit) ≡ movedBytes width64 Forward (now (m .entry)) (now (b .entry)) ⌝ }
 {
     let p = load(b);
     store(b, step(p, m));
 }
 
 // The pipe in `b` before the block `m`, in its place.
-pub fn backward(b: &mut [u8], m: &[u8])
+pub fn step_back_in(b: &mut [u8], m: &[u8])
     requires { ⌜ (length (now b) ≡ 128) × (length (now m) ≡ 128) ⌝ }
-    ensures { λ _. ⌜ now (b .exit) ≡ pipeBytes width64 Backward (now (m .entry)) (now (b .entry)) ⌝ }
+    ensures { λ _. ⌜ now (b .exit) ≡ movedBytes width64 Backward (now (m .entry)) (now (b .entry)) ⌝ }
 {
     let p = load(b);
     store(b, step_back(p, m));

@@ -1,5 +1,5 @@
 -- What a call knows and leaves once its tests have answered, for any of the operations.
-use mathlib.Core.Path.{_≡_, sym, _∙_}
+use mathlib.Core.Path.{_≡_, sym}
 use mathlib.Core.Bool.{Bool, true, false, not}
 use mathlib.Core.List.{List, _++_}
 use Prim.Native.Nat.{ℕ, _≤_}
@@ -7,8 +7,8 @@ use native.Mathlib.Omega.{arith}
 use lib.ListN.{length, drop}
 use Rattle.answer.specs.declared.Answer.{Answer}
 use Rattle.answer.specs.Refuse.{isDone}
-use Rattle.answer.proofs.Tests.{goes-on, stops}
-use Rattle.answer.proofs.Refuse.{refused-outcome, done-outcome}
+use Rattle.answer.proofs.Tests.{goes-on}
+use Rattle.answer.proofs.Outcome.{ends-refused, ends-done}
 use Rattle.quasigroup.specs.Tables.{Width}
 use Rattle.operands.specs.Operation.{answerFor, onBytes, outputAfter}
 use Rattle.operands.proofs.Tests.{success}
@@ -26,14 +26,13 @@ module _ (op : Width → List ℕ → List ℕ → List ℕ) (w : ℕ) (x y out 
 
   module _ (e : r ≡ answerFor w x y out) {done : Bool} (d : done ≡ isDone r) where
     pub refused : not done ≡ true → Ended out
-    refused n = (e, rw e at (refused-outcome r (onBytes op w x y ++ drop w out) out (stops d n)))
+    refused = ends-refused (onBytes op w x y ++ drop w out) out e d
 
     pub passed : not done ≡ false → Passed
     passed n =
         let s = success w x y out r e (goes-on d n) in
-        let f = done-outcome r (onBytes op w x y ++ drop w out) out (goes-on d n) in
         record {
           other = s .other;
           fits = λ k h. (omega arith, omega arith, omega arith);
-          written = λ k h last g. (e, (rw (sym h) at g) ∙ rw e at f);
+          written = λ k h last g. ends-done (onBytes op w x y ++ drop w out) out e d n (rw (sym h) at g);
         }

@@ -4,8 +4,8 @@ ghost use Rattle.quasigroup.specs.Tables.{width64};
 ghost use Rattle.digest.specs.Step.{forward};
 ghost use Rattle.pipe.specs.Backward.{backward};
 ghost use Rattle.compression64.specs.Pipes.{pipe64};
-use division64::left_division;
-use division64::right_division;
+use division64::left;
+use division64::right;
 use division64::right_undone;
 use division64::separated;
 use half64::barred_left_half;
@@ -45,8 +45,8 @@ pub fn forward(p: Pipe64, x: [u64; 8], y: [u64; 8]) -> Pipe64
     }
 }
 
-// The pipe before a block whose halves are `x` and `y`: the divisions of the definition by their halves. D5, whose divisor is barred, takes the barred
-// left half.
+// The pipe before a block whose halves are `x` and `y`, by the products and divisions of the definition. Only D5, whose divisor is barred, is put
+// together from its parts: the barred left half, and the right half undone.
 pub fn backward(p: Pipe64, x: [u64; 8], y: [u64; 8]) -> Pipe64
     ensures { λ r. ⌜ pipe64 r ≡ backward width64 (pipe64 p) x y ⌝ }
 {
@@ -55,11 +55,11 @@ pub fn backward(p: Pipe64, x: [u64; 8], y: [u64; 8]) -> Pipe64
     let d1 = barred_product(y, x);
     let d2 = product(d1, y);
     let d5 = right_undone(separated(d7, barred_left_half(x)));
-    let d6 = left_division(d7, d8);
-    let d4 = right_division(d6, d5);
-    let d3 = right_division(d4, d2);
-    let c0 = right_division(d3, d1);
-    let c1 = left_division(d3, d5);
+    let d6 = left::divide(d7, d8);
+    let d4 = right::divide(d6, d5);
+    let d3 = right::divide(d4, d2);
+    let c0 = right::divide(d3, d1);
+    let c1 = left::divide(d3, d5);
     Pipe64 {
         first: c1,
         second: c0,

@@ -7,6 +7,17 @@ use Rattle.quasigroup.specs.Product.{product}
 use Rattle.quasigroup.specs.Vector.{reversed}
 use Rattle.digest.specs.Pipe.{Pipe}
 
+-- R's first two arguments, as parts of a pipe. These three lines decide the order of the pipe's halves: C0 is its second vector and C1 its first. Document
+-- 01's prose has them the other way round, which gives none of the sixteen values printed in 001, section 3.16; this order gives them, and 001 decides.
+abbrev pub c0Of : Pipe → List ℕ
+c0Of p = p .second
+
+abbrev pub c1Of : Pipe → List ℕ
+c1Of p = p .first
+
+abbrev pub pipeFrom : List ℕ → List ℕ → Pipe
+pipeFrom C0 C1 = record { first = C1; second = C0 }
+
 -- how many bytes a word has
 abbrev pub wordBytes : Width → ℕ
 wordBytes s = s .bits / 8
@@ -32,11 +43,9 @@ module _ (s : Width) where
   abbrev pub blockY : List ℕ → List ℕ
   blockY m = wordsAt (wordBytes s) 8 m (8 * wordBytes s)
 
-  -- The pipe p after a block whose halves are X and Y. This line decides the order of the pipe's halves: C0 is its second vector and C1 its first.
-  -- Document 01's prose has them the other way round, which gives none of the sixteen values printed in 001, section 3.16; this order gives them, and
-  -- 001 decides.
+  -- the pipe p after a block whose halves are X and Y
   abbrev pub forward : Pipe → List ℕ → List ℕ → Pipe
-  forward p X Y = R (p .second) (p .first) X Y
+  forward p X Y = R (c0Of p) (c1Of p) X Y
 
   -- the pipe p after a block m in bytes
   unfoldable pub step : Pipe → List ℕ → Pipe

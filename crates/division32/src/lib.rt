@@ -1,4 +1,7 @@
 // The two divisions of EDON-R's product of vectors of eight words of 32 bits, as values.
+pub mod left;
+pub mod right;
+
 ghost use mathlib.Core.Path.{_≡_};
 ghost use mathlib.Core.List.{[]};
 ghost use Prim.Native.Nat.{_-_, _<_};
@@ -7,7 +10,7 @@ ghost use Rattle.word.specs.Word.{minus, rotl};
 ghost use Rattle.quasigroup.specs.Tables.{width32};
 ghost use Rattle.quasigroup.specs.Product.{pick, xor};
 ghost use Rattle.quasigroup.specs.Division.{leftUnxors, rightUnxors, leftInverse, rightInverse, unrotatedSums, unsums, separated};
-ghost use Rattle.quasigroup.specs.Division.{unleft, unright, leftDivision, rightDivision};
+ghost use Rattle.quasigroup.specs.Division.{unleft, unright};
 ghost use Rattle.halves.specs.Balance.{balance, twoFifths};
 
 // The result's words in the order of the combinations, less the half that is known. As with the product's halves, a caller that divides where
@@ -169,18 +172,4 @@ pub fn right_undone(z: [u32; 8]) -> [u32; 8]
     ensures { λ x. ⌜ x ≡ unright width32 z ⌝ }
 {
     right_unsummed(right_unrotated(z))
-}
-
-// a\b, the `x` with a*x = b.
-pub fn left_division(a: [u32; 8], b: [u32; 8]) -> [u32; 8]
-    ensures { λ x. ⌜ x ≡ leftDivision width32 a b ⌝ }
-{
-    right_undone(separated(b, half32::left_half(a)))
-}
-
-// b/a, the `y` with y*a = b.
-pub fn right_division(b: [u32; 8], a: [u32; 8]) -> [u32; 8]
-    ensures { λ y. ⌜ y ≡ rightDivision width32 b a ⌝ }
-{
-    left_undone(separated(b, half32::right_half(a)))
 }

@@ -11,7 +11,7 @@ ghost use Rattle.digest.specs.State.{openAnswer, opened, finishAnswer, finishOu
 ghost use Rattle.digest.specs.OneCall.{oneCallAnswer, oneCallOut};
 ghost use Rattle.invertible.specs.RoundTrip.{Forward, Backward};
 ghost use Rattle.sheet.specs.Run.{runAnswer, runBytes};
-ghost use Rattle.pipe.specs.Call.{blockAnswer, blockBytes};
+ghost use Rattle.pipe.specs.Call.{stepAnswer, stepBytes};
 ghost use Rattle.narrow.specs.Outcomes.{narrowOf, hashOf as ofNarrow, fed as fedNarrow};
 ghost use Rattle.wide.specs.Outcomes.{wideOf, hashOf as ofWide, fed as fedWide};
 use narrow::Narrow;
@@ -74,8 +74,8 @@ pub extern "C" fn edonr_run_backward(width: u32, vectors: &mut [u8], sheet: &[u8
 // The pipe after the block, in its place.
 #[no_mangle]
 pub extern "C" fn edonr_block_forward(width: u32, pipe: &mut [u8], block: &[u8]) -> u64
-    ensures { λ r. ⌜ r ≡ numberOf (blockAnswer width (now (block .entry)) (now (pipe .entry))) ⌝ }
-    ensures { λ _. ⌜ now (pipe .exit) ≡ blockBytes Forward width (now (block .entry)) (now (pipe .entry)) ⌝ }
+    ensures { λ r. ⌜ r ≡ numberOf (stepAnswer width (now (block .entry)) (now (pipe .entry))) ⌝ }
+    ensures { λ _. ⌜ now (pipe .exit) ≡ stepBytes Forward width (now (block .entry)) (now (pipe .entry)) ⌝ }
 {
     answer::number(lent_pipe::forward(width, pipe, block))
 }
@@ -83,8 +83,8 @@ pub extern "C" fn edonr_block_forward(width: u32, pipe: &mut [u8], block: &[u8])
 // The pipe before the block, in its place: it undoes a step forward.
 #[no_mangle]
 pub extern "C" fn edonr_block_backward(width: u32, pipe: &mut [u8], block: &[u8]) -> u64
-    ensures { λ r. ⌜ r ≡ numberOf (blockAnswer width (now (block .entry)) (now (pipe .entry))) ⌝ }
-    ensures { λ _. ⌜ now (pipe .exit) ≡ blockBytes Backward width (now (block .entry)) (now (pipe .entry)) ⌝ }
+    ensures { λ r. ⌜ r ≡ numberOf (stepAnswer width (now (block .entry)) (now (pipe .entry))) ⌝ }
+    ensures { λ _. ⌜ now (pipe .exit) ≡ stepBytes Backward width (now (block .entry)) (now (pipe .entry)) ⌝ }
 {
     answer::number(lent_pipe::backward(width, pipe, block))
 }

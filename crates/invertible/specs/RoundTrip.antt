@@ -1,5 +1,5 @@
--- Document 01, demand 3: the way home of a list of calls over the same lent memory. A call is of any kind that has an `exchanged` one: the same call in
--- the other direction. The statement; proofs/RoundTrip.antt shows it of calls that can be taken back.
+-- Document 01, demand 3: the way home of a list of calls on the same state, such as lent memory. A call is of any kind that has an `exchanged` one: the
+-- same call in the other direction. The statement; proofs/RoundTrip.antt shows it of calls that can be taken back.
 use mathlib.Core.Path.{_≡_}
 use mathlib.Core.List.{List, map, reverse}
 use Rattle.invertible.specs.Invertible.{stepped, outputs}

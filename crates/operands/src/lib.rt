@@ -1,4 +1,5 @@
-// What product and divisions on lent bytes answer, decided by the width, the lengths of the operands and the room of the output.
+// What product and divisions on lent bytes answer, decided by the width, the lengths of the operands and the room of the output; and the tests of width
+// and lengths, which other calls make too.
 ghost use mathlib.Core.Path.{_≡_};
 ghost use mathlib.Core.Bool.{_&&_};
 ghost use lib.Dec.{eqb};
@@ -18,14 +19,14 @@ pub fn known_width(width: u32) -> bool
     width == 64
 }
 
-// Whether both operands are exactly `w` bytes.
-pub fn operands_fit(w: usize, x: &[u8], y: &[u8]) -> bool
-    ensures { λ r. ⌜ r ≡ eqb (length (now (x .entry))) w && eqb (length (now (y .entry))) w ⌝ }
+// Whether both operands are exactly `n` bytes.
+pub fn operands_fit(n: usize, x: &[u8], y: &[u8]) -> bool
+    ensures { λ r. ⌜ r ≡ eqb (length (now (x .entry))) n && eqb (length (now (y .entry))) n ⌝ }
 {
-    if x.len() != w {
+    if x.len() != n {
         return false;
     }
-    y.len() == w
+    y.len() == n
 }
 
 // The answer, by the refusals in their order. Nothing is written.

@@ -14,7 +14,7 @@ use Rattle.quasigroup.specs.Tables.{Width}
 use Rattle.digest.specs.Pipe.{Pipe, written}
 use Rattle.digest.specs.Step.{wordBytes, blockX, blockY}
 use Rattle.pipe.specs.Backward.{moved}
-use Rattle.pipe.specs.Call.{pipeIn, pipeBytes}
+use Rattle.pipe.specs.Call.{pipeIn, movedBytes}
 
 module _ (s : Width) where
   abbrev k : ℕ
@@ -32,8 +32,8 @@ module _ (s : Width) where
 
   -- the pipe in its place after the block
   pub replaced : (g : Direction) (m b : List ℕ) {p q : Pipe} {last : List ℕ} → p ≡ pipeIn s b → q ≡ moved s g p (blockX s m) (blockY s m) → last ≡ written k q
-      → last ≡ pipeBytes s g m b
-  unfolding pipeBytes
+      → last ≡ movedBytes s g m b
+  unfolding movedBytes
   replaced g m b e f h = h ∙ ap (written k) (f ∙ ap (λ (p : Pipe). moved s g p (blockX s m) (blockY s m)) e)
 
 -- two vectors stored over 16 * k bytes, the second in the part behind the first

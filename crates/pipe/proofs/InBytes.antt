@@ -1,11 +1,11 @@
 -- Pipes in bytes: sixteen words and their bytes are the same pipe, written in two ways.
 use mathlib.Core.Path.{_≡_, refl, sym, ap, ap₂, _∙_}
 use mathlib.Core.List.{List, [], _++_, append-nil}
-use Prim.Native.Nat.{ℕ, _+_, _*_, _≤_}
+use Prim.Native.Nat.{ℕ, _*_, _≤_}
 use native.Mathlib.Omega.{arith}
 use lib.ListN.{length, take, drop, take-append-drop, length-append, length-drop}
 use lib.Seq.{take-all}
-use Rattle.memory.specs.Bytes.{Bytes, bytesOf, wordsAt}
+use Rattle.memory.specs.Bytes.{Bytes, bytesOf}
 use Rattle.memory.proofs.Bytes.{bytesOf-append, bytesOf-are}
 use Rattle.quasigroup.specs.Tables.{Width}
 use Rattle.quasigroup.specs.Vector.{Vector}
@@ -34,12 +34,12 @@ module _ (s : Width) (h : Bytewise (s .bits)) where
   pipe-in b hb = record { first = x-vector b hb; second = y-vector b hb }
 
   module _ (p : Pipe) (hp : PipeOf w p) where
-    apart : written k p ≡ bytesOf k (p .first) ++ bytesOf k (p .second)
-    apart = bytesOf-append k (p .first) (p .second)
+    written-apart : written k p ≡ bytesOf k (p .first) ++ bytesOf k (p .second)
+    written-apart = bytesOf-append k (p .first) (p .second)
 
     pub written-length : length (written k p) ≡ 2 * w
     written-length =
-        ap length apart ∙ length-append (bytesOf k (p .first)) (bytesOf k (p .second))
+        ap length written-apart ∙ length-append (bytesOf k (p .first)) (bytesOf k (p .second))
         ∙ omega (arith, vector-length w h (p .first) (hp .first .size), vector-length w h (p .second) (hp .second .size))
 
     pub written-bytes : Bytes (written k p)
@@ -52,9 +52,9 @@ module _ (s : Width) (h : Bytewise (s .bits)) where
         let v = bytesOf k (p .second) in
         let e : length u ≡ 8 * k = vector-length w h (p .first) (hp .first .size) ∙ sym (h .eight) in
         let x : blockX s (written k p) ≡ p .first =
-        ap (blockX s) apart ∙ words-back w h (p .first) (hp .first) [] v 0 refl in
+        ap (blockX s) written-apart ∙ words-back w h (p .first) (hp .first) [] v 0 refl in
         let y : blockY s (written k p) ≡ p .second =
-        ap (blockY s) (apart ∙ ap (λ (l : List ℕ). u ++ l) (sym (append-nil v))) ∙ words-back w h (p .second) (hp .second) u [] (8 * k) e in
+        ap (blockY s) (written-apart ∙ ap (λ (l : List ℕ). u ++ l) (sym (append-nil v))) ∙ words-back w h (p .second) (hp .second) u [] (8 * k) e in
         ap₂ {C = Pipe} (λ a b. record { first = a; second = b }) x y
 
   -- and what is found is written again

@@ -3,5 +3,5 @@ pub mod Reversible
 pub mod InBytes
 pub mod Call
 pub mod RoundTrip
-pub mod NeverMeet
+pub mod Messages
 pub mod Fitting

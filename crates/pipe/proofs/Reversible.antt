@@ -3,7 +3,7 @@ use mathlib.Core.Path.{_≡_, refl, sym, ap, _∙_}
 use mathlib.Core.List.{List}
 use Prim.Native.Nat.{ℕ}
 use Rattle.invertible.specs.Invertible.{stepped, Each, Invertible}
-use Rattle.invertible.specs.RoundTrip.{Direction, Forward, Backward, other, reversal}
+use Rattle.invertible.specs.RoundTrip.{Direction, Forward, Backward, other, reversal, Returns}
 use Rattle.invertible.proofs.RoundTrip.{returns}
 use Rattle.quasigroup.specs.Tables.{Width, width32, width64}
 use Rattle.quasigroup.specs.Product.{product}
@@ -16,7 +16,7 @@ use Rattle.digest.specs.Pipe.{Pipe}
 use Rattle.digest.specs.Step.{R, forward}
 use Rattle.digest.proofs.Step.{rows}
 use Rattle.pipe.specs.Backward.{backward, moved}
-use Rattle.pipe.specs.Reversible.{PipeOf, Step, StepOf, exchanged, after, Reversible, EveryWidth}
+use Rattle.pipe.specs.Reversible.{PipeOf, BlockStep, BlockStepOf, exchanged, after, Reversible, BlocksReversible}
 use Rattle.pipe.proofs.Backward.{solved}
 
 module _ (s : Width) (h : Admissible s) where
@@ -86,39 +86,39 @@ module _ (s : Width) (h : Admissible s) where
 
     -- back from q: each solution is a vector, and the product finds what was divided
     module _ (q : Pipe) (hq : PipeOf w q) where
-      abbrev B5 : List ℕ
-      B5 = leftDivision s (reversed X) (q .first)
+      abbrev S5 : List ℕ
+      S5 = leftDivision s (reversed X) (q .first)
 
-      abbrev B6 : List ℕ
-      B6 = leftDivision s (q .first) (q .second)
+      abbrev S6 : List ℕ
+      S6 = leftDivision s (q .first) (q .second)
 
-      abbrev B4 : List ℕ
-      B4 = rightDivision s B6 B5
+      abbrev S4 : List ℕ
+      S4 = rightDivision s S6 S5
 
-      abbrev B3 : List ℕ
-      B3 = rightDivision s B4 D2
+      abbrev S3 : List ℕ
+      S3 = rightDivision s S4 D2
 
-      k5 : Vector w B5
+      k5 : Vector w S5
       k5 = by-left s h (reversed X) hbX .back (q .first) (hq .first)
 
-      k6 : Vector w B6
+      k6 : Vector w S6
       k6 = by-left s h (q .first) (hq .first) .back (q .second) (hq .second)
 
-      k4 : Vector w B4
-      k4 = by-right s h B5 k5 .back B6 k6
+      k4 : Vector w S4
+      k4 = by-right s h S5 k5 .back S6 k6
 
-      k3 : Vector w B3
-      k3 = by-right s h D2 h2 .back B4 k4
+      k3 : Vector w S3
+      k3 = by-right s h D2 h2 .back S4 k4
 
       backward-of : PipeOf w (backward s q X Y)
       unfolding backward
-      backward-of = record { first = by-left s h B3 k3 .back B5 k5; second = by-right s h D1 h1 .back B3 k3 }
+      backward-of = record { first = by-left s h S3 k3 .back S5 k5; second = by-right s h D1 h1 .back S3 k3 }
 
       forth-again : forward s (backward s q X Y) X Y ≡ q
       unfolding backward
       forth-again =
-          sym (rows s (backward s q X Y .second) (backward s q X Y .first) X Y refl refl (sym (by-right s h D1 h1 .right B3 k3))
-          (sym (by-right s h D2 h2 .right B4 k4)) (sym (by-left s h B3 k3 .right B5 k5)) (sym (by-right s h B5 k5 .right B6 k6))
+          sym (rows s (backward s q X Y .second) (backward s q X Y .first) X Y refl refl (sym (by-right s h D1 h1 .right S3 k3))
+          (sym (by-right s h D2 h2 .right S4 k4)) (sym (by-left s h S3 k3 .right S5 k5)) (sym (by-right s h S5 k5 .right S6 k6))
           (sym (by-left s h (reversed X) hbX .right (q .first) (hq .first))) (sym (by-left s h (q .first) (hq .first) .right (q .second) (hq .second))))
 
     -- in either direction
@@ -140,24 +140,24 @@ module _ (s : Width) (h : Admissible s) where
 
   -- ---- a list of steps
 
-  invertible : Invertible (StepOf w) (PipeOf w) (after s) (λ b. after s (exchanged b))
+  invertible : Invertible (BlockStepOf w) (PipeOf w) (after s) (λ b. after s (exchanged b))
   invertible =
       record {
-        keeps = λ b p hb hp. moved-of (b .x) (b .y) (hb .first) (hb .second) (b .direction) p hp;
-        back = λ b p hb hp. moved-back (b .x) (b .y) (hb .first) (hb .second) (b .direction) p hp;
+        keeps = λ b p hb hp. moved-of (b .x) (b .y) (hb .x) (hb .y) (b .direction) p hp;
+        back = λ b p hb hp. moved-back (b .x) (b .y) (hb .x) (hb .y) (b .direction) p hp;
       }
 
-  home : (l : List Step) → Each (StepOf w) l → (p : Pipe) → PipeOf w p → stepped (after s) (reversal exchanged l) (stepped (after s) l p) ≡ p
-  home l hl p hp = returns exchanged (after s) invertible hl p hp
+  steps-return : (l : List BlockStep) → Each (BlockStepOf w) l → (p : Pipe) → PipeOf w p → Returns exchanged (after s) l p
+  steps-return l hl p hp = returns exchanged (after s) invertible hl p hp
 
-pub reversible : EveryWidth
+pub reversible : BlocksReversible
 reversible s h =
     record {
       closed = λ p X Y hp hX hY. forward-of s h X Y hX hY p hp;
-      one = λ q X Y hq hX hY. only s h X Y hX hY q hq;
-      apart = λ l hl p q hp hq n e.
-          n (sym (home s h l hl p hp) ∙ ap (stepped (after s) (reversal exchanged l)) e ∙ home s h l hl q hq);
-      home = home s h;
+      uniqueBefore = λ q X Y hq hX hY. only s h X Y hX hY q hq;
+      injective = λ l hl p q hp hq n e.
+          n (sym (steps-return s h l hl p hp) ∙ ap (stepped (after s) (reversal exchanged l)) e ∙ steps-return s h l hl q hq);
+      returns = steps-return s h;
     }
 
 pub reversible-32 : Reversible width32

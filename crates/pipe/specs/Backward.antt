@@ -1,4 +1,5 @@
--- Document 02, Paper 11: back through a block. The rows of R that hold the pipe are solved for it, the last row first.
+-- Document 02, Paper 11: back through a block. R's products that hold the pipe are solved for it, from the last ones to the first; C1 comes last, since
+-- it needs D3.
 use mathlib.Core.List.{List}
 use Prim.Native.Nat.{ℕ}
 use Rattle.quasigroup.specs.Tables.{Width}
@@ -7,11 +8,10 @@ use Rattle.quasigroup.specs.Division.{leftDivision, rightDivision}
 use Rattle.quasigroup.specs.Vector.{reversed}
 use Rattle.invertible.specs.RoundTrip.{Direction, Forward, Backward}
 use Rattle.digest.specs.Pipe.{Pipe}
-use Rattle.digest.specs.Step.{forward}
+use Rattle.digest.specs.Step.{pipeFrom, blockX, blockY, forward}
 
 module _ (s : Width) where
-  -- The pipe before a block whose halves are X and Y, where p, with the vectors D7 and D8, is the pipe after it. D1 and D2 hold the block alone. C0 is the
-  -- pipe's second vector and C1 its first, as in `forward`.
+  -- the pipe before a block whose halves are X and Y, where p, with the vectors D7 and D8, is the pipe after it; D1 and D2 hold the block alone
   unfoldable pub backward : Pipe → List ℕ → List ℕ → Pipe
   backward p X Y =
       let D1 = product s (reversed Y) X in
@@ -24,9 +24,13 @@ module _ (s : Width) where
       let D3 = rightDivision s D4 D2 in
       let C0 = rightDivision s D3 D1 in
       let C1 = leftDivision s D3 D5 in
-      record { first = C1; second = C0 }
+      pipeFrom C0 C1
 
   -- a block forward or back, by the direction
   abbrev pub moved : Direction → Pipe → List ℕ → List ℕ → Pipe
   moved Forward p X Y = forward s p X Y
   moved Backward p X Y = backward p X Y
+
+  -- the pipe before a block m in bytes
+  abbrev pub stepBack : Pipe → List ℕ → Pipe
+  stepBack p m = backward p (blockX s m) (blockY s m)

@@ -15,18 +15,19 @@ use Rattle.digest.specs.Pipe.{Pipe, written}
 use Rattle.digest.specs.Step.{wordBytes, blockX, blockY}
 use Rattle.pipe.specs.Backward.{moved}
 
--- 5, the width is not 32 or 64; 6, the pipe b or the block m is not exactly 2 * w bytes
-abbrev pub blockAnswer : ℕ → List ℕ → List ℕ → Answer
-blockAnswer w m b = unless (knownWidth w) Width (unless (eqb (length b) (2 * w) && eqb (length m) (2 * w)) Operand (Done (2 * w)))
+-- the answer to a step by the block m on the pipe b: 5, the width is not 32 or 64; 6, the pipe or the block is not exactly 2 * w bytes; or 2 * w
+abbrev pub stepAnswer : ℕ → List ℕ → List ℕ → Answer
+stepAnswer w m b = unless (knownWidth w) Width (unless (eqb (length b) (2 * w) && eqb (length m) (2 * w)) Operand (Done (2 * w)))
 
 module _ (s : Parameters) where
   -- a pipe stands in bytes as a block does: words 0 to 7, then words 8 to 15; `written` writes it so
   abbrev pub pipeIn : List ℕ → Pipe
   pipeIn b = record { first = blockX s b; second = blockY s b }
 
-  unfoldable pub pipeBytes : Direction → List ℕ → List ℕ → List ℕ
-  pipeBytes g m b = written (wordBytes s) (moved s g (pipeIn b) (blockX s m) (blockY s m))
+  -- the pipe in the bytes b, moved by the block m and written out again
+  unfoldable pub movedBytes : Direction → List ℕ → List ℕ → List ℕ
+  movedBytes g m b = written (wordBytes s) (moved s g (pipeIn b) (blockX s m) (blockY s m))
 
--- the lent pipe b after the block m in the direction; a refused call changes none of its bytes
-abbrev pub blockBytes : Direction → ℕ → List ℕ → List ℕ → List ℕ
-blockBytes g w m b = outcome (blockAnswer w m b) (pipeBytes (widthOf w) g m b) b
+-- .. and the bytes of the pipe afterwards; a refused step changes none
+abbrev pub stepBytes : Direction → ℕ → List ℕ → List ℕ → List ℕ
+stepBytes g w m b = outcome (stepAnswer w m b) (movedBytes (widthOf w) g m b) b

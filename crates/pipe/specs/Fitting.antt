@@ -3,7 +3,7 @@
 use mathlib.Core.List.{List}
 use Prim.Native.Nat.{ℕ, _^_}
 use Rattle.answer.specs.Injective.{Fits}
-use Rattle.pipe.specs.Call.{blockAnswer}
+use Rattle.pipe.specs.Call.{stepAnswer}
 
 abbrev pub BlockFits : Type 0
-BlockFits = (w : ℕ) (m b : List ℕ) → Fits (2 ^ 32) (blockAnswer w m b)
+BlockFits = (w : ℕ) (m b : List ℕ) → Fits (2 ^ 32) (stepAnswer w m b)

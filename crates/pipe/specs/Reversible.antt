@@ -11,7 +11,7 @@ use Rattle.quasigroup.specs.Theorem.{OnlySolution, Admissible}
 use Rattle.digest.specs.Pipe.{Pipe}
 use Rattle.digest.specs.Blocks.{compressed}
 use Rattle.digest.specs.Step.{forward}
-use Rattle.digest.specs.Kind.{Kind}
+use Rattle.digest.specs.Kind.{Kind, narrowKind, wideKind}
 use Rattle.pipe.specs.Backward.{backward, moved}
 
 -- a pipe of words below 2^w
@@ -20,41 +20,46 @@ pub record PipeOf (w : ℕ) (p : Pipe) : Type 0 where
   pub second : Vector w (p .second)
 
 -- a step on a pipe is its direction and the block's two halves
-pub record Step : Type 0 where
+pub record BlockStep : Type 0 where
   pub direction : Direction
   pub x : List ℕ
   pub y : List ℕ
 
 -- .. of words below 2^w
-pub record StepOf (w : ℕ) (b : Step) : Type 0 where
-  pub first : Vector w (b .x)
-  pub second : Vector w (b .y)
+pub record BlockStepOf (w : ℕ) (b : BlockStep) : Type 0 where
+  pub x : Vector w (b .x)
+  pub y : Vector w (b .y)
 
 -- a step with its own block and the other direction
-abbrev pub exchanged : Step → Step
+abbrev pub exchanged : BlockStep → BlockStep
 exchanged b = record { direction = other (b .direction); x = b .x; y = b .y }
 
 -- the pipe after a step
-abbrev pub after : Width → Step → Pipe → Pipe
+abbrev pub after : Width → BlockStep → Pipe → Pipe
 after s b p = moved s (b .direction) p (b .x) (b .y)
 
 pub record Reversible (s : Width) : Type 0 where
   -- a step forward leaves words below 2^w
   pub closed : (p : Pipe) (X Y : List ℕ) → PipeOf (s .bits) p → Vector (s .bits) X → Vector (s .bits) Y → PipeOf (s .bits) (forward s p X Y)
   -- there is exactly one pipe before q: the step back returns it, and the step forward from it finds q
-  pub one : (q : Pipe) (X Y : List ℕ) → PipeOf (s .bits) q → Vector (s .bits) X → Vector (s .bits) Y
+  pub uniqueBefore : (q : Pipe) (X Y : List ℕ) → PipeOf (s .bits) q → Vector (s .bits) X → Vector (s .bits) Y
       → OnlySolution (PipeOf (s .bits)) (λ p. forward s p X Y) q (backward s q X Y)
   -- two different pipes never arrive at the same pipe by the same steps, however many: by the same blocks where all steps are forward
-  pub apart : (l : List Step) → Each (StepOf (s .bits)) l → (p q : Pipe) → PipeOf (s .bits) p → PipeOf (s .bits) q
+  pub injective : (l : List BlockStep) → Each (BlockStepOf (s .bits)) l → (p q : Pipe) → PipeOf (s .bits) p → PipeOf (s .bits) q
       → (p ≡ q → ⊥) → stepped (after s) l p ≡ stepped (after s) l q → ⊥
   -- the list from its last step to its first with directions exchanged finds the starting pipe
-  pub home : (l : List Step) → Each (StepOf (s .bits)) l → (p : Pipe) → PipeOf (s .bits) p → Returns exchanged (after s) l p
+  pub returns : (l : List BlockStep) → Each (BlockStepOf (s .bits)) l → (p : Pipe) → PipeOf (s .bits) p → Returns exchanged (after s) l p
 
--- the theorem
-abbrev pub EveryWidth : Type 0
-EveryWidth = (s : Width) → Admissible s → Reversible s
+-- the theorem, for a general width; 32 and 64 are two instances
+abbrev pub BlocksReversible : Type 0
+BlocksReversible = (s : Width) → Admissible s → Reversible s
 
--- .. and of messages: of a kind of hash with words of w bits, two different pipes fed the same bytes never arrive at the same pipe
-abbrev pub NeverMeet : ℕ → Kind → Type 0
-NeverMeet w k = (m : List ℕ) → Bytes m → (p q : Pipe) → PipeOf w p → PipeOf w q
+-- .. and of messages: of a kind of hash with words of w bits, two different pipes never arrive at the same pipe by the whole blocks of the same bytes;
+-- `compressed` is how feeding and finishing take them
+abbrev pub MessageInjective : ℕ → Kind → Type 0
+MessageInjective w k = (m : List ℕ) → Bytes m → (p q : Pipe) → PipeOf w p → PipeOf w q
     → (p ≡ q → ⊥) → compressed (k .block) (k .step) p m ≡ compressed (k .block) (k .step) q m → ⊥
+
+pub record MessagesInjective : Type 0 where
+  pub narrow : MessageInjective 32 narrowKind
+  pub wide : MessageInjective 64 wideKind

@@ -6,29 +6,29 @@ use Rattle.answer.specs.declared.Answer.{Answer}
 use Rattle.invertible.specs.Invertible.{Each}
 use Rattle.invertible.specs.RoundTrip.{Direction, other, RoundTrip}
 use Rattle.memory.specs.Bytes.{Bytes}
-use Rattle.pipe.specs.Call.{blockAnswer, blockBytes}
+use Rattle.pipe.specs.Call.{stepAnswer, stepBytes}
 
 -- a call is its direction, its width and its block
-pub record Call : Type 0 where
+pub record BlockCall : Type 0 where
   pub direction : Direction
   pub width : ℕ
   pub block : List ℕ
 
 -- a call's answer, and the lent bytes after it
-abbrev pub answerTo : Call → List ℕ → Answer
-answerTo c b = blockAnswer (c .width) (c .block) b
+abbrev pub answerTo : BlockCall → List ℕ → Answer
+answerTo c b = stepAnswer (c .width) (c .block) b
 
-abbrev pub after : Call → List ℕ → List ℕ
-after c b = blockBytes (c .direction) (c .width) (c .block) b
+abbrev pub after : BlockCall → List ℕ → List ℕ
+after c b = stepBytes (c .direction) (c .width) (c .block) b
 
 -- a call with its own width and block and the other direction
-abbrev pub exchanged : Call → Call
+abbrev pub exchanged : BlockCall → BlockCall
 exchanged c = record { direction = other (c .direction); width = c .width; block = c .block }
 
 -- every block is of bytes
-abbrev pub Blocks : List Call → Type 0
+abbrev pub Blocks : List BlockCall → Type 0
 Blocks l = Each (λ c. Bytes (c .block)) l
 
 -- The way home of every list of calls finds the starting bytes, and each call on it answers what it answered on the way out
-abbrev pub RoundTrips : Type 0
-RoundTrips = (l : List Call) → Blocks l → (b : List ℕ) → Bytes b → RoundTrip exchanged after answerTo l b
+abbrev pub BlockRoundTrips : Type 0
+BlockRoundTrips = (l : List BlockCall) → Blocks l → (b : List ℕ) → Bytes b → RoundTrip exchanged after answerTo l b

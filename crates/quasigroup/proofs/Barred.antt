@@ -10,7 +10,7 @@ use Rattle.quasigroup.specs.Division.{separated, unright, leftDivision}
 use Rattle.quasigroup.proofs.Quasigroup.{left-from-halves}
 
 -- Word i of the reversed vector is word 7 - i, so that both halves sum the same words.
-pub left-half-of-reversed : (s : Width) (x : List ℕ) → barredLeftHalf s x ≡ leftHalf s (reversed x)
+left-half-of-reversed : (s : Width) (x : List ℕ) → barredLeftHalf s x ≡ leftHalf s (reversed x)
 unfolding leftHalf barredLeftHalf
 left-half-of-reversed s x = refl
 

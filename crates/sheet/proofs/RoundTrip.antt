@@ -1,5 +1,5 @@
 -- The round trip of a list of runs.
-use mathlib.Core.Path.{_≡_, refl, sym, ap, _∙_}
+use mathlib.Core.Path.{_≡_, sym, ap, _∙_}
 use mathlib.Core.Bool.{Bool}
 use mathlib.Core.List.{List}
 use Prim.Native.Nat.{ℕ, _*_}
@@ -7,8 +7,9 @@ use borrow.Author.Tests.{eqb-true}
 use lib.Dec.{eqb}
 use lib.ListN.{length}
 use Rattle.answer.specs.declared.Answer.{Answer}
-use Rattle.answer.specs.declared.Answer.the-variants.{Done}
-use Rattle.answer.specs.Refuse.{outcome}
+use Rattle.answer.specs.declared.Answer.the-variants.{Done, Refused}
+use Rattle.answer.specs.declared.Refusal.{Refusal}
+use Rattle.answer.proofs.Outcome.{outcome-holds, outcome-answer, outcome-back}
 use Rattle.invertible.specs.Invertible.{Invertible}
 use Rattle.invertible.proofs.RoundTrip.{round-trip}
 use Rattle.quasigroup.proofs.Widths.{Bytewise, bytewise}
@@ -58,22 +59,22 @@ module _ (g : Direction) (w : ℕ) (s : List ℕ) (hs : Bytes s) (b : List ℕ) 
         ∙ ap (vectorBytes w) (run-back w width s hs st g)
         ∙ bytes-vectors w width b hb placeCount size
 
-  -- what holds of b and, behind the tests, of the new bytes holds of what a run leaves
-  run-length : length (runBytes g w s b) ≡ length b
-  run-length = refused-or placeCount w (fit (length b)) s done (λ a. length (outcome a (new g b) b) ≡ length b) (λ r i. refl) new-length
+  run-cases : (P : Answer → Type 0) → ((r : Refusal) (i : ℕ) → P (Refused r i)) → (Passed placeCount w (fit (length b)) s → (n : ℕ) → P (Done n))
+      → P (runAnswer w s b)
+  run-cases P refused pass = refused-or placeCount w (fit (length b)) s done P refused (λ p. pass p (totalUnits w s (planOf w s .offsets)))
+
+  abbrev answerBy : ℕ → Answer
+  answerBy n = sheetAnswer w (fit n) s done
 
   run-bytes : Bytes (runBytes g w s b)
-  run-bytes = refused-or placeCount w (fit (length b)) s done (λ a. Bytes (outcome a (new g b) b)) (λ r i. hb) new-bytes
+  run-bytes = outcome-holds Bytes length answerBy (new g) (new (other g)) b run-cases hb new-bytes
 
   -- the same run in the other direction
   same-answer : runAnswer w s (runBytes g w s b) ≡ runAnswer w s b
-  same-answer = ap (λ (n : ℕ). sheetAnswer w (fit n) s done) run-length
+  same-answer = outcome-answer Bytes length answerBy (new g) (new (other g)) b run-cases new-length
 
   there-and-back : runBytes (other g) w s (runBytes g w s b) ≡ b
-  there-and-back =
-      let left : Answer → List ℕ = λ a. outcome a (new g b) b in
-      ap (λ (a : Answer). outcome a (new (other g) (runBytes g w s b)) (runBytes g w s b)) same-answer
-      ∙ refused-or placeCount w (fit (length b)) s done (λ a. outcome a (new (other g) (left a)) (left a) ≡ b) (λ r i. refl) new-back
+  there-and-back = outcome-back Bytes length answerBy (new g) (new (other g)) b run-cases new-length new-back
 
 -- ---- a list of runs
 

@@ -19,4 +19,8 @@ returns c =
     (left-from-halves width64 _ _ (z .before .left-half .ensures) (z .separated .ensures) (r .right-undone .ensures)) (x .vector-at .ensures) (y .get .ensures)
 
 pub divide-by-spec : {M : Type 1} → statement M
-divide-by-spec = tie.close (tie.spec (λ c κs. search needs) (λ c κs. search needs) (λ c κs. search needs) (λ c κs. search needs) (λ c κs. search needs) (λ c κs. search needs) (λ c. search needs) returns)
+divide-by-spec =
+    tie.close
+    (tie.spec
+    (λ c κs. search needs) (λ c κs. search needs) (λ c κs. search needs) (λ c κs. search needs) (λ c κs. search needs)
+    (λ c κs. search needs) (λ c. search needs) returns)

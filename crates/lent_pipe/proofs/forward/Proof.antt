@@ -11,8 +11,8 @@ returns c =
     let a = t .before .before .before .before .args in
     refused (a .width) (now (a .block)) (now (a .pipe)) Forward _ (t .answer-for .ensures) (c .before .is-done .ensures) (c .if1 .taken)
 
-forward-requires : tie.Need-forward-requires
-forward-requires c κs =
+step-in-requires : tie.Need-step-in-requires
+step-in-requires c κs =
     let i = c .before .before in
     let t = i .before .before in
     let a = t .before .before .before .before .args in
@@ -26,10 +26,10 @@ returns-2 c =
     let t = i .before .before in
     let a = t .before .before .before .before .args in
     let p = passed (a .width) (now (a .block)) (now (a .pipe)) Forward _ (t .answer-for .ensures) (i .before .is-done .ensures) (i .if1 .left) in
-    p .written 32 (j .if2 .taken) _ (c .before .before .forward .ensures)
+    p .written 32 (j .if2 .taken) _ (c .before .before .step-in .ensures)
 
-forward-requires-2 : tie.Need-forward-requires-2
-forward-requires-2 c κs =
+step-in-requires-2 : tie.Need-step-in-requires-2
+step-in-requires-2 c κs =
     let i = c .before .before in
     let t = i .before .before in
     let a = t .before .before .before .before .args in
@@ -43,11 +43,11 @@ returns-3 c =
     let t = i .before .before in
     let a = t .before .before .before .before .args in
     let p = passed (a .width) (now (a .block)) (now (a .pipe)) Forward _ (t .answer-for .ensures) (i .before .is-done .ensures) (i .if1 .left) in
-    p .written 64 (p .other (j .if2 .left)) _ (c .before .before .forward2 .ensures)
+    p .written 64 (p .other (j .if2 .left)) _ (c .before .before .step-in2 .ensures)
 
 pub forward-spec : {M : Type 1} → statement M
 forward-spec =
     tie.close
     (tie.spec
-    (λ c κs. search needs) (λ c κs. search needs) (λ c. search needs) returns forward-requires (λ c. search needs) returns-2
-    forward-requires-2 (λ c. search needs) returns-3)
+    (λ c κs. search needs) (λ c κs. search needs) (λ c. search needs) returns step-in-requires (λ c. search needs) returns-2
+    step-in-requires-2 (λ c. search needs) returns-3)

@@ -3,8 +3,8 @@ use denote.Ref.{now}
 use Rattle.quasigroup.specs.Tables.{width64}
 use Rattle.invertible.specs.RoundTrip.{Backward}
 use Rattle.pipe.proofs.Call.{replaced}
-use Rattle.block64.proofs.backward.Statement.{statement}
-use Rattle.block64.proofs.backward.Tie as tie
+use Rattle.block64.proofs.step_back_in.Statement.{statement}
+use Rattle.block64.proofs.step_back_in.Tie as tie
 
 returns : tie.Need-returns
 returns c =
@@ -13,7 +13,7 @@ returns c =
     let a = l .before .before .before .before .args in
     replaced width64 Backward (now (a .m)) (now (a .b)) (l .load .ensures) (q .step-back .ensures) (c .before .before .store .ensures)
 
-pub backward-spec : {M : Type 1} → statement M
-backward-spec =
+pub step-back-in-spec : {M : Type 1} → statement M
+step-back-in-spec =
     tie.close (tie.spec
     (λ c κs. search needs) (λ c κs. search needs) (λ c κs. search needs) (λ c. search needs) returns)

@@ -1,5 +1,5 @@
--- Two different pipes fed the same bytes never arrive at the same pipe.
-use mathlib.Core.Path.{_≡_, refl, sym, ap, _∙_}
+-- Two different pipes never arrive at the same pipe by the whole blocks of the same bytes.
+use mathlib.Core.Path.{_≡_, sym, ap, _∙_}
 use mathlib.Core.List.{List}
 use Prim.Native.Nat.{ℕ, zero, suc, _*_, _/_}
 use lib.ListN.{length, drop}
@@ -12,9 +12,8 @@ use Rattle.quasigroup.proofs.Widths.{Bytewise, bytewise-32, bytewise-64}
 use Rattle.digest.specs.Pipe.{Pipe}
 use Rattle.digest.specs.Blocks.{block, iterated}
 use Rattle.digest.specs.Step.{blockX, blockY, step}
-use Rattle.digest.specs.Kind.{narrowKind, wideKind}
 use Rattle.pipe.specs.Backward.{backward}
-use Rattle.pipe.specs.Reversible.{PipeOf, NeverMeet}
+use Rattle.pipe.specs.Reversible.{PipeOf, MessagesInjective}
 use Rattle.pipe.proofs.Reversible.{forward-of, back-again}
 use Rattle.pipe.proofs.InBytes.{x-vector, y-vector}
 
@@ -26,9 +25,9 @@ module _ (s : Width) (h : Admissible s) (k : Bytewise (s .bits)) where
   unfolding step
   step-of m hm p hp = forward-of s h (blockX s m) (blockY s m) (x-vector s k m hm) (y-vector s k m hm) p hp
 
-  step-back : (m : List ℕ) → Bytes m → (p : Pipe) → PipeOf w p → backward s (step s p m) (blockX s m) (blockY s m) ≡ p
+  step-undone : (m : List ℕ) → Bytes m → (p : Pipe) → PipeOf w p → backward s (step s p m) (blockX s m) (blockY s m) ≡ p
   unfolding step
-  step-back m hm p hp = back-again s h (blockX s m) (blockY s m) (x-vector s k m hm) (y-vector s k m hm) p hp
+  step-undone m hm p hp = back-again s h (blockX s m) (blockY s m) (x-vector s k m hm) (y-vector s k m hm) p hp
 
   module _ (B : ℕ) (m : List ℕ) (hm : Bytes m) where
     block-bytes : (i : ℕ) → Bytes (block B m i)
@@ -43,12 +42,13 @@ module _ (s : Width) (h : Admissible s) (k : Bytewise (s .bits)) where
     iterated-one (suc n) p q hp hq e =
         let c = block B m n in
         iterated-one n p q hp hq
-        (sym (step-back c (block-bytes n) (iterated B (step s) n p m) (iterated-of n p hp))
+        (sym (step-undone c (block-bytes n) (iterated B (step s) n p m) (iterated-of n p hp))
         ∙ ap (λ (r : Pipe). backward s r (blockX s c) (blockY s c)) e
-        ∙ step-back c (block-bytes n) (iterated B (step s) n q m) (iterated-of n q hq))
+        ∙ step-undone c (block-bytes n) (iterated B (step s) n q m) (iterated-of n q hq))
 
-pub narrow-never-meet : NeverMeet 32 narrowKind
-narrow-never-meet m hm p q hp hq n e = n (iterated-one width32 admissible-32 bytewise-32 64 m hm (length m / 64) p q hp hq e)
-
-pub wide-never-meet : NeverMeet 64 wideKind
-wide-never-meet m hm p q hp hq n e = n (iterated-one width64 admissible-64 bytewise-64 128 m hm (length m / 128) p q hp hq e)
+pub messages-injective : MessagesInjective
+messages-injective =
+    record {
+      narrow = λ m hm p q hp hq n e. n (iterated-one width32 admissible-32 bytewise-32 64 m hm (length m / 64) p q hp hq e);
+      wide = λ m hm p q hp hq n e. n (iterated-one width64 admissible-64 bytewise-64 128 m hm (length m / 128) p q hp hq e);
+    }
