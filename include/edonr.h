@@ -328,8 +328,9 @@ uint64_t edonr_wide_finish(const struct edonr_wide *hash, uint8_t *out, size_t o
  * is exactly one pipe before it.
  *
  * A digest of size n is the last n/8 bytes of the pipe that the blocks of the padded
- * message lead to, one after the other, from the starting pipe of its size: first and then
- * second of a hash that was just opened (D).
+ * message lead to, one after the other, from the starting pipe of its size: the words of
+ * first and then of second of a hash that was just opened (D), each with its lowest byte
+ * first.
  */
 
 /*

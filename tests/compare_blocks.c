@@ -296,8 +296,8 @@ static void compare_message(uint32_t size, size_t len)
     size_t padded_len = prepare_message(size, message, len, padded, start);
     memcpy(pipe, start, pipe_len);
     walk(FORWARD, width, padded, padded_len, pipe);
-    edonr_digest(size, message, len, digest, sizeof digest);
-    check(memcmp(pipe + pipe_len - digest_len, digest, digest_len) == 0,
+    check(edonr_digest(size, message, len, digest, sizeof digest) == digest_len &&
+              memcmp(pipe + pipe_len - digest_len, digest, digest_len) == 0,
           "size %" PRIu32 ", %zu bytes: another digest", size, len);
     walk(BACKWARD, width, padded, padded_len, pipe);
     check(memcmp(pipe, start, pipe_len) == 0,

@@ -2,8 +2,8 @@
  * Included by block.h, once with WIDTH 32 and once with WIDTH 64.
  */
 
-/* The first row of document 001, Definition 8, which the pipe does not enter. */
-IN_LINE void AT_WIDTH(first_row)(const unsigned amounts[2][8], const WORD x[8],
+/* D1 and D2 of document 001, Definition 8, which the pipe does not enter. */
+IN_LINE void AT_WIDTH(mix_block)(const unsigned amounts[2][8], const WORD x[8],
                                  const WORD y[8], WORD d1[8], WORD d2[8])
 {
     WORD reversed[8];
@@ -22,7 +22,7 @@ IN_LINE void AT_WIDTH(add_block_by)(enum pipe_order order, const unsigned amount
     WORD d1[8], d2[8], d3[8], d4[8], d5[8], d6[8];
     AT_WIDTH(load_vector)(block, x);
     AT_WIDTH(load_vector)(block + WIDTH, y);
-    AT_WIDTH(first_row)(amounts, x, y, d1, d2);
+    AT_WIDTH(mix_block)(amounts, x, y, d1, d2);
     AT_WIDTH(multiply_by)(amounts, c0, d1, d3);
     AT_WIDTH(multiply_by)(amounts, d3, d2, d4);
     AT_WIDTH(multiply_by)(amounts, d3, c1, d5);
@@ -38,8 +38,8 @@ static inline void AT_WIDTH(add_block)(WORD pipe[16], const uint8_t *block)
     AT_WIDTH(add_block_by)(C0_IS_SECOND_HALF, AT_WIDTH(rotations), pipe, block);
 }
 
-/* The pipe before a block from the pipe after it. Each product of the other rows has one
-   factor that is not known, and a division finds it; C1 comes last, as it needs D3. */
+/* The pipe before a block from the pipe after it. Each other product has one factor that is
+   not known, and a division finds it; C1 comes last, as it needs D3. */
 static inline void AT_WIDTH(remove_block)(WORD pipe[16], const uint8_t *block)
 {
     const WORD *d7 = pipe, *d8 = pipe + 8;
@@ -48,7 +48,7 @@ static inline void AT_WIDTH(remove_block)(WORD pipe[16], const uint8_t *block)
     WORD d1[8], d2[8], d3[8], d4[8], d5[8], d6[8];
     AT_WIDTH(load_vector)(block, x);
     AT_WIDTH(load_vector)(block + WIDTH, y);
-    AT_WIDTH(first_row)(AT_WIDTH(rotations), x, y, d1, d2);
+    AT_WIDTH(mix_block)(AT_WIDTH(rotations), x, y, d1, d2);
     AT_WIDTH(reverse)(x, reversed);
     AT_WIDTH(reference_divide_left)(reversed, d7, d5);
     AT_WIDTH(reference_divide_left)(d7, d8, d6);

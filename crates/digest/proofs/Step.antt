@@ -1,5 +1,5 @@
 -- One block, from the products that code makes, at any width.
-use mathlib.Core.Path.{_≡_, _∙_}
+use mathlib.Core.Path.{_≡_}
 use mathlib.Core.List.{List}
 use Prim.Native.Nat.{ℕ}
 use Rattle.quasigroup.specs.Tables.{Width}
@@ -7,7 +7,7 @@ use Rattle.quasigroup.specs.Product.{leftHalf, rightHalf, joined, product}
 use Rattle.quasigroup.specs.Vector.{reversed}
 use Rattle.quasigroup.specs.Barred.{barredLeftHalf}
 use Rattle.quasigroup.proofs.Quasigroup.{from-halves}
-use Rattle.quasigroup.proofs.Barred.{barred-product, barred-from-halves}
+use Rattle.quasigroup.proofs.Barred.{from-barred, barred-from-halves}
 use Rattle.digest.specs.Step.{R}
 
 module _ (s : Width) where
@@ -31,5 +31,6 @@ module _ (s : Width) where
       → l8 ≡ leftHalf s d7 → r8 ≡ rightHalf s d6 → d8 ≡ joined (s .bits) l8 r8
       → record { first = d7; second = d8 } ≡ R s C0 C1 X Y
   by-halves C0 C1 X Y l1 r1 e1 l2 r2 e2 l3 r3 e3 l4 r4 e4 r5 e5 r6 l6 e6 l7 e7 l8 r8 e8 =
-      rows C0 C1 X Y (barred-from-halves s Y X l1 r1 e1 ∙ barred-product s Y X) (from-halves s _ Y l2 r2 e2) (from-halves s C0 _ l3 r3 e3) (from-halves s _ _ l4 r4 e4)
-      (from-halves s _ C1 l4 r5 e5) (from-halves s _ _ l6 r6 e6) (barred-from-halves s X _ l7 r6 e7 ∙ barred-product s X _) (from-halves s _ _ l8 r8 e8)
+      rows C0 C1 X Y (from-barred s Y X (barred-from-halves s Y X l1 r1 e1)) (from-halves s _ Y l2 r2 e2) (from-halves s C0 _ l3 r3 e3)
+      (from-halves s _ _ l4 r4 e4) (from-halves s _ C1 l4 r5 e5) (from-halves s _ _ l6 r6 e6) (from-barred s X _ (barred-from-halves s X _ l7 r6 e7))
+      (from-halves s _ _ l8 r8 e8)

@@ -1,6 +1,6 @@
 -- A pipe in lent bytes, from the loads and stores that code makes, at any width.
 use mathlib.Core.Path.{_≡_, ap, ap₂, sym, _∙_}
-use mathlib.Core.List.{List, [], _++_, append-nil}
+use mathlib.Core.List.{List, _++_, append-nil}
 use Prim.Native.Nat.{ℕ, _+_, _-_, _*_, _≤_}
 use native.Mathlib.Omega.{arith}
 use borrow.Rule.Slice.PartMut.{putMid, midOf}
@@ -31,14 +31,15 @@ module _ (s : Width) where
   by-loaded g p m e f = f ∙ ap (λ (n : Pipe). moved s g p (n .first) (n .second)) e
 
   -- the pipe in its place after the block
-  pub replaced : (g : Direction) (m b : List ℕ) {p q : Pipe} {last : List ℕ} → p ≡ pipeIn s b → q ≡ moved s g p (blockX s m) (blockY s m) → last ≡ written k q
-      → last ≡ movedBytes s g m b
+  pub replaced : (g : Direction) (m b : List ℕ) {p q : Pipe} {last : List ℕ} → p ≡ pipeIn s b → q ≡ moved s g p (blockX s m) (blockY s m)
+      → last ≡ written k q → last ≡ movedBytes s g m b
   unfolding movedBytes
   replaced g m b e f h = h ∙ ap (written k) (f ∙ ap (λ (p : Pipe). moved s g p (blockX s m) (blockY s m)) e)
 
 -- two vectors stored over 16 * k bytes, the second in the part behind the first
-pub stored : (k : ℕ) (u v b : List ℕ) → length u ≡ 8 → length v ≡ 8 → length b ≡ 16 * k → {half part : List ℕ} → half ≡ bytesOf k u ++ drop (8 * k) b
-    → part ≡ bytesOf k v ++ drop (8 * k) (midOf (8 * k) (length half - 8 * k) half) → putMid (8 * k) (length half - 8 * k) half part ≡ bytesOf k (u ++ v)
+pub stored : (k : ℕ) (u v b : List ℕ) → length u ≡ 8 → length v ≡ 8 → length b ≡ 16 * k → {half part : List ℕ}
+    → half ≡ bytesOf k u ++ drop (8 * k) b → part ≡ bytesOf k v ++ drop (8 * k) (midOf (8 * k) (length half - 8 * k) half)
+    → putMid (8 * k) (length half - 8 * k) half part ≡ bytesOf k (u ++ v)
 stored k u v b eu ev eb {half} {part} e f =
     let j : ℕ = 8 * k in
     let lu : length (bytesOf k u) ≡ j = length-bytesOf k u ∙ ap (λ (n : ℕ). n * k) eu in
