@@ -3,28 +3,13 @@ ghost use mathlib.Core.Path.{_≡_};
 ghost use Rattle.invertible.specs.RoundTrip.{Forward, Backward};
 ghost use Rattle.pipe.specs.Call.{stepAnswer, stepBytes};
 use answer::Answer;
-use answer::Refusal;
-
-// The answer, by the refusals in their order. Nothing is written.
-fn answer_for(width: u32, pipe: &[u8], block: &[u8]) -> Answer
-    ensures { λ r. ⌜ r ≡ stepAnswer width (now (block .entry)) (now (pipe .entry)) ⌝ }
-{
-    if !operands::known_width(width) {
-        return Answer::Refused(Refusal::Width, 0);
-    }
-    let n = 2 * (width as usize);
-    if !operands::operands_fit(n, pipe, block) {
-        return Answer::Refused(Refusal::Operand, 0);
-    }
-    Answer::Done(n as u64)
-}
 
 // The pipe after the block, in its place.
 pub fn forward(width: u32, pipe: &mut [u8], block: &[u8]) -> Answer
     ensures { λ r. ⌜ r ≡ stepAnswer width (now (block .entry)) (now (pipe .entry)) ⌝ }
     ensures { λ _. ⌜ now (pipe .exit) ≡ stepBytes Forward width (now (block .entry)) (now (pipe .entry)) ⌝ }
 {
-    let r = answer_for(width, pipe, block);
+    let r = operands::step::answer_for(width, pipe, block);
     if !answer::is_done(r) {
         return r;
     }
@@ -41,7 +26,7 @@ pub fn backward(width: u32, pipe: &mut [u8], block: &[u8]) -> Answer
     ensures { λ r. ⌜ r ≡ stepAnswer width (now (block .entry)) (now (pipe .entry)) ⌝ }
     ensures { λ _. ⌜ now (pipe .exit) ≡ stepBytes Backward width (now (block .entry)) (now (pipe .entry)) ⌝ }
 {
-    let r = answer_for(width, pipe, block);
+    let r = operands::step::answer_for(width, pipe, block);
     if !answer::is_done(r) {
         return r;
     }

@@ -1,3 +1,4 @@
 pub mod Tests
+pub mod StepTests
 pub mod Stored
 pub mod Fitting

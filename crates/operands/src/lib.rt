@@ -1,5 +1,6 @@
-// What product and divisions on lent bytes answer, decided by the width, the lengths of the operands and the room of the output; and the tests of width
-// and lengths, which other calls make too.
+// What product and divisions on lent bytes answer, and steps of one block: decided by the width, the lengths of the operands and the room of the output.
+pub mod step;
+
 ghost use mathlib.Core.Path.{_≡_};
 ghost use mathlib.Core.Bool.{_&&_};
 ghost use lib.Dec.{eqb};
@@ -10,7 +11,7 @@ use answer::Answer;
 use answer::Refusal;
 
 // Whether the width is 32 or 64.
-pub fn known_width(width: u32) -> bool
+fn known_width(width: u32) -> bool
     ensures { λ r. ⌜ r ≡ knownWidth width ⌝ }
 {
     if width == 32 {
@@ -20,7 +21,7 @@ pub fn known_width(width: u32) -> bool
 }
 
 // Whether both operands are exactly `n` bytes.
-pub fn operands_fit(n: usize, x: &[u8], y: &[u8]) -> bool
+fn operands_fit(n: usize, x: &[u8], y: &[u8]) -> bool
     ensures { λ r. ⌜ r ≡ eqb (length (now (x .entry))) n && eqb (length (now (y .entry))) n ⌝ }
 {
     if x.len() != n {

@@ -1,9 +1,9 @@
 use borrow.Author.Needs.{needs}
 use denote.Ref.{now}
 use Rattle.answer.proofs.Tests.{goes-on, stops}
-use Rattle.lent_pipe.proofs.Outcome.{unknown-refused, operand-refused, accepted}
-use Rattle.lent_pipe.proofs.answer_for.Statement.{statement}
-use Rattle.lent_pipe.proofs.answer_for.Tie as tie
+use Rattle.operands.proofs.StepTests.{unknown-refused, operand-refused, accepted}
+use Rattle.operands.proofs.step.answer_for.Statement.{statement}
+use Rattle.operands.proofs.step.answer_for.Tie as tie
 
 returns : tie.Need-returns
 returns c =
