@@ -30,6 +30,7 @@ static const struct {
     {'A', bench_product},
     {'B', bench_digest},
     {'C', bench_sheets},
+    {'C', bench_inverse_sheets},
     {'E', bench_blocks},
 };
 

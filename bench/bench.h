@@ -17,10 +17,11 @@ struct work {
    alike, and keeps the best time of each. */
 void bench_measure(struct work *works, size_t count);
 
-/* One call for each stage; each prints its own table. */
+/* The stages, by parts of the header; each prints its own table. */
 void bench_product(void);
 void bench_digest(void);
 void bench_sheets(void);
+void bench_inverse_sheets(void);
 void bench_blocks(void);
 
 #endif

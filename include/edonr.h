@@ -202,6 +202,31 @@ uint64_t edonr_run_forward(uint32_t width, uint8_t *vectors, size_t vectors_len,
 uint64_t edonr_run_backward(uint32_t width, uint8_t *vectors, size_t vectors_len,
                             const uint8_t *sheet, size_t sheet_len);
 
+/*
+ * Writes the inverse sheet of a sheet, the one that goes home: the undoing commands, last
+ * one first, each with the places and the K of the command it undoes, in the same order of
+ * bytes. It has the sheet's length.
+ *
+ * At one width, a forward run of the inverse sheet does what a backward run of the sheet
+ * does and returns what that returns, whatever the vectors, and a backward run of it is a
+ * forward run of the sheet. So after a forward run of a sheet, a forward run of its inverse
+ * sheet gives the vectors back. The inverse sheet of the inverse sheet is the sheet itself,
+ * byte by byte.
+ *
+ * Reads    sheet, sheet_len bytes; an empty sheet is fine, and its inverse sheet is empty.
+ * Writes   on success the first sheet_len bytes of out: the inverse sheet. Bytes behind
+ *          them stay.
+ * Returns  sheet_len, 0 to 4,096.
+ * Refuses  in this order:
+ *          5 EDONR_REFUSED_WIDTH   width is neither 32 nor 64;
+ *          7 EDONR_REFUSED_SHEET   sheet_len is over 4,096;
+ *          8 to 11                 by the first faulty command, with the offset of its
+ *                                  first byte, as edonr_run_forward refuses it;
+ *          4 EDONR_REFUSED_OUTPUT  out_len is under sheet_len.
+ */
+uint64_t edonr_inverse_sheet(uint32_t width, const uint8_t *sheet, size_t sheet_len,
+                             uint8_t *out, size_t out_len);
+
 /* ============================ D. Hashing in pieces ============================ */
 
 /*

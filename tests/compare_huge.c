@@ -24,9 +24,11 @@
 #include "harness/lent.h"
 #include "harness/product_call.h"
 #include "harness/random.h"
+#include "harness/sheet_maker.h"
 #include "reference/digest.h"
 #include "reference/division.h"
 #include "reference/hash.h"
+#include "reference/sheet.h"
 
 #define AT_29 ((uint64_t)1 << 29)
 #define AT_32 ((uint64_t)1 << 32)
@@ -168,6 +170,16 @@ static void compare_finish(enum kind kind, uint32_t size)
     check_out("finishing", size, got, want);
 }
 
+static void compare_inverse_sheet(uint32_t width)
+{
+    static struct sheet sheet;
+    make_sheet(width, SEEN_OUT / 2, &sheet);
+    size_t len = prepare_out();
+    uint64_t want = reference_inverse_sheet(width, sheet.bytes, sheet.len, want_out, len);
+    uint64_t got = edonr_inverse_sheet(width, sheet.bytes, sheet.len, huge_out, len);
+    check_out("inverse sheet", width, got, want);
+}
+
 static void compare_outputs(void)
 {
     check_group("outputs of over 2^32 bytes");
@@ -178,6 +190,8 @@ static void compare_outputs(void)
         compare_operation(&operations[i], 32);
         compare_operation(&operations[i], 64);
     }
+    compare_inverse_sheet(32);
+    compare_inverse_sheet(64);
     for (unsigned i = 0; i < 4; i++) {
         compare_digest(kind_sizes[i / 2][i % 2]);
         compare_finish((enum kind)(i / 2), kind_sizes[i / 2][i % 2]);

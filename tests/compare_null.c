@@ -8,6 +8,7 @@
 #include "harness/check.h"
 #include "harness/digest_call.h"
 #include "harness/hash_call.h"
+#include "harness/inverse_sheet_call.h"
 #include "harness/lent.h"
 #include "harness/product_call.h"
 #include "harness/random.h"
@@ -56,10 +57,11 @@ static void compare_digests(void)
     }
 }
 
+static const uint8_t flips[4] = {6, 0, 6, 1};
+
 /* A run without vectors is refused; one without a sheet does nothing, and answers 0. */
 static void compare_runs(void)
 {
-    static const uint8_t flips[4] = {6, 0, 6, 1};
     uint8_t vectors[VECTORS_64];
     check_group("runs");
     for (unsigned n = 0; n < 4 * DIRECTIONS * 4; n++) {
@@ -71,6 +73,15 @@ static void compare_runs(void)
         random_fill(vectors, sizeof vectors);
         check_run_call(&run, vectors, vectors_len);
     }
+}
+
+/* The inverse sheet of an empty sheet is empty too, and needs no output. */
+static void compare_inverse_sheets(void)
+{
+    check_group("inverse sheets");
+    for (unsigned n = 0; n < 4 * 4; n++)
+        check_inverse_sheet_call(widths[n % 4], flips, slice_len(n / 4, 0, sizeof flips),
+                                 slice_len(n / 4, 1, 64), NULL);
 }
 
 /* A step without pipe or without block is refused. */
@@ -132,6 +143,11 @@ static void check_points(void)
         check(step(32, pipe, PIPE_32, NULL, 0) == REFUSED(6), "a step without block");
         check(step(33, NULL, 0, NULL, 0) == REFUSED(5), "a step with neither");
     }
+    check(edonr_inverse_sheet(32, NULL, 0, out, 64) == 0, "an inverse sheet of no sheet");
+    check(edonr_inverse_sheet(64, NULL, 0, NULL, 0) == 0, "neither sheet nor output");
+    check(edonr_inverse_sheet(32, flips, 4, NULL, 0) == REFUSED(4),
+          "an inverse sheet without output");
+    check(edonr_inverse_sheet(33, NULL, 0, NULL, 0) == REFUSED(5), "neither, at no width");
     check(edonr_narrow_open(&narrow, 256) == 0 && edonr_wide_open(&wide, 512) == 0,
           "openings");
     check(edonr_narrow_feed(&narrow, NULL, 0) == 0, "narrow, fed nothing");
@@ -149,6 +165,7 @@ int main(int argc, char **argv)
     compare_products();
     compare_digests();
     compare_runs();
+    compare_inverse_sheets();
     compare_steps();
     for (enum kind kind = NARROW; kind < KINDS; kind++)
         compare_pieces(kind);

@@ -23,14 +23,6 @@ enum {
 
 static const uint32_t widths[2] = {32, 64};
 
-/* Mostly short sheets, some of any length; never of one byte, which no command fills. */
-static size_t random_sheet_len(void)
-{
-    uint64_t most = random_below(20) == 0 ? SHEET_MOST_BYTES : 200;
-    size_t len = (size_t)random_below(most + 1);
-    return len == 1 ? 0 : len;
-}
-
 /* The sheet forward and backward, each from vectors of its own. */
 static void check_both_directions(uint32_t width, const uint8_t *sheet, size_t sheet_len,
                                   size_t vectors_len)
@@ -43,6 +35,11 @@ static void check_both_directions(uint32_t width, const uint8_t *sheet, size_t s
     }
 }
 
+static void check_sheet(uint32_t width, const uint8_t *sheet, size_t sheet_len)
+{
+    check_both_directions(width, sheet, sheet_len, EDONR_PLACES * width);
+}
+
 static void compare_random(uint32_t width)
 {
     static struct sheet sheet;
@@ -51,7 +48,7 @@ static void compare_random(uint32_t width)
         make_sheet(width, random_sheet_len(), &sheet);
         if (i % 3 == 0)
             damage_sheet(&sheet);
-        check_both_directions(width, sheet.bytes, sheet.len, EDONR_PLACES * width);
+        check_sheet(width, sheet.bytes, sheet.len);
     }
 }
 
@@ -62,10 +59,9 @@ static void compare_full(uint32_t width)
     check_group("sheets of 4,096 and 4,097 bytes, width %" PRIu32, width);
     for (unsigned i = 0; i < FULL_SHEETS; i++) {
         make_sheet(width, SHEET_MOST_BYTES, &sheet);
-        check_both_directions(width, sheet.bytes, SHEET_MOST_BYTES, EDONR_PLACES * width);
+        check_sheet(width, sheet.bytes, SHEET_MOST_BYTES);
         sheet.bytes[SHEET_MOST_BYTES] = (uint8_t)(i % 10);
-        check_both_directions(width, sheet.bytes, SHEET_MOST_BYTES + 1,
-                              EDONR_PLACES * width);
+        check_sheet(width, sheet.bytes, SHEET_MOST_BYTES + 1);
     }
 }
 
@@ -75,10 +71,10 @@ static void check_counted(uint32_t width, size_t count, size_t len)
 {
     static struct sheet sheet;
     make_counted_sheet(width, count, len, &sheet);
-    check_both_directions(width, sheet.bytes, sheet.len, EDONR_PLACES * width);
+    check_sheet(width, sheet.bytes, sheet.len);
     if (random_below(4) == 0) {
         damage_sheet(&sheet);
-        check_both_directions(width, sheet.bytes, sheet.len, EDONR_PLACES * width);
+        check_sheet(width, sheet.bytes, sheet.len);
     }
 }
 
@@ -110,40 +106,21 @@ static void compare_lengths(uint32_t width)
     check_group("sheets of 0 to %d bytes, width %" PRIu32, SHEET_MOST_BYTES, width);
     for (size_t len = 0; len <= SHEET_MOST_BYTES; len += len == 0 ? 2 : 1) {
         make_sheet(width, len, &sheet);
-        check_both_directions(width, sheet.bytes, sheet.len, EDONR_PLACES * width);
+        check_sheet(width, sheet.bytes, sheet.len);
     }
 }
 
-/* Every first byte, cut at every length. */
 static void compare_cut_commands(uint32_t width)
 {
-    uint8_t command[2 + 64 + 1];
     check_group("one command, cut anywhere, width %" PRIu32, width);
-    for (unsigned code = 0; code < 256; code++) {
-        random_fill(command, sizeof command);
-        command[0] = (uint8_t)code;
-        command[1] = (uint8_t)(code % EDONR_PLACES);
-        command[2] = (uint8_t)((code + 1) % EDONR_PLACES);
-        for (size_t len = 1; len <= 2 + width + 1; len++)
-            check_both_directions(width, command, len, EDONR_PLACES * width);
-    }
+    each_cut_command(width, check_sheet);
 }
 
-/* Every command at sound and unsound places, behind a flip that a refusal must not do. */
+/* A refusal must not do the flip that stands in front. */
 static void compare_places(uint32_t width)
 {
-    enum { N = EDONR_PLACES };
-    static const uint8_t places[] = {0,     1,         3,     4,   N - 2, N - 1,   N,
-                                     N + 1, 2 * N - 1, 2 * N, 127, 128,   256 - N, 255};
-    enum { COUNT = sizeof places };
     check_group("places, width %" PRIu32, width);
-    for (unsigned n = 0; n < 8 * COUNT * COUNT; n++) {
-        uint8_t code = (uint8_t)(1 + n / (COUNT * COUNT));
-        uint8_t sheet[2 + 2 + 64] = {6, 0, code, places[n / COUNT % COUNT],
-                                     places[n % COUNT]};
-        check_both_directions(width, sheet, 2 + command_len(width, code),
-                              EDONR_PLACES * width);
-    }
+    each_pair_of_places(width, check_sheet);
 }
 
 /* Widths, lengths and sheets, sound and not, in every combination. */

@@ -1,5 +1,5 @@
 /*
- * fuzz [rounds]: all fourteen calls with random arguments, sound, nearly sound and
+ * fuzz [rounds]: all fifteen calls with random arguments, sound, nearly sound and
  * nonsense, each compared with the reference. The number of rounds is fixed, so that two
  * runs from one seed are the same.
  */
@@ -12,6 +12,7 @@
 #include "harness/digest_call.h"
 #include "harness/hash_call.h"
 #include "harness/hash_maker.h"
+#include "harness/inverse_sheet_call.h"
 #include "harness/product_call.h"
 #include "harness/random.h"
 #include "harness/run_call.h"
@@ -21,7 +22,7 @@
 #include "reference/digest.h"
 #include "reference/division.h"
 
-enum { DEFAULT_ROUNDS = 1000000, MOST_MESSAGE = 1 << 16, CALLS = 14 };
+enum { DEFAULT_ROUNDS = 1000000, MOST_MESSAGE = 1 << 16, MOST_OUT = 200, CALLS = 15 };
 
 static uint8_t bytes[MOST_MESSAGE];
 
@@ -38,10 +39,10 @@ static uint64_t fuzz_number(uint64_t right)
 }
 
 /* The length of an output, which cannot be claimed only: a success writes there. */
-static size_t fuzz_out_len(uint64_t right)
+static size_t fuzz_out_len(uint64_t right, size_t most)
 {
     uint64_t len = fuzz_number(right);
-    return len <= 200 ? (size_t)len : (size_t)random_below(200);
+    return (size_t)(len <= most ? len : random_below(most));
 }
 
 static uint32_t fuzz_width(void)
@@ -73,7 +74,7 @@ static bool fuzz_operation(unsigned operation)
                                 .first_len = (size_t)fuzz_number(width),
                                 .second = second,
                                 .second_len = (size_t)fuzz_number(width),
-                                .out_len = fuzz_out_len(width)};
+                                .out_len = fuzz_out_len(width, MOST_OUT)};
     random_pattern(first, call.first_len <= sizeof first ? call.first_len : 0);
     random_pattern(second, call.second_len <= sizeof second ? call.second_len : 0);
     return is_refusal(check_product_call(&call));
@@ -84,9 +85,9 @@ static bool fuzz_digest(void)
 {
     static const uint32_t sizes[4] = {224, 256, 384, 512};
     uint32_t right = sizes[random_below(4)], size = (uint32_t)fuzz_number(right);
-    size_t len = fuzz_message_len(), out_len = fuzz_out_len(right / 8);
+    size_t len = fuzz_message_len(), out_len = fuzz_out_len(right / 8, MOST_OUT);
     uint64_t claim = fuzz_claim();
-    uint8_t out[200];
+    uint8_t out[MOST_OUT];
     random_pattern(bytes, len);
     bool refused = is_refusal(reference_digest(size, bytes, 0, out, out_len));
     if (random_below(8) == 0 && (refused || claim > MOST_BYTES_FED))
@@ -125,6 +126,17 @@ static bool fuzz_run(enum direction direction)
     return is_refusal(check_run_call(&run, vectors, vectors_len));
 }
 
+static bool fuzz_inverse_sheet(void)
+{
+    static struct sheet sheet;
+    uint32_t width = fuzz_width();
+    fuzz_sheet(width, &sheet);
+    size_t len = sheet.len, out_len = fuzz_out_len(len, INVERSE_SHEET_CALL_CAPACITY);
+    if (random_below(64) == 0)
+        len = (size_t)fuzz_claim();
+    return is_refusal(check_inverse_sheet_call(width, sheet.bytes, len, out_len, NULL));
+}
+
 /* One hash of each kind goes on from call to call, and is made up anew now and then. */
 static union hash *fuzz_hash(enum kind kind)
 {
@@ -159,7 +171,7 @@ static bool fuzz_feed(enum kind kind)
 static bool fuzz_finish(enum kind kind)
 {
     union hash *hash = fuzz_hash(kind);
-    size_t out_len = fuzz_out_len(kind_sizes[kind][random_below(2)] / 8);
+    size_t out_len = fuzz_out_len(kind_sizes[kind][random_below(2)] / 8, MOST_OUT);
     return is_refusal(check_finish_call(kind, hash, out_len, NULL));
 }
 
@@ -191,7 +203,8 @@ static bool fuzz_call(unsigned call)
     case 10:
     case 11: return fuzz_finish(kind);
     case 12: return fuzz_step(FORWARD);
-    default: return fuzz_step(BACKWARD);
+    case 13: return fuzz_step(BACKWARD);
+    default: return fuzz_inverse_sheet();
     }
 }
 
@@ -201,14 +214,14 @@ int main(int argc, char **argv)
         "product",        "left division", "right division", "digest",
         "forward run",    "backward run",  "narrow opening", "wide opening",
         "narrow feeding", "wide feeding",  "narrow finish",  "wide finish",
-        "forward step",   "backward step",
+        "forward step",   "backward step", "inverse sheet",
     };
     unsigned long calls[CALLS] = {0}, refused[CALLS] = {0};
     int argument = check_program("fuzz", argc, argv);
     unsigned long rounds =
         argument < argc ? strtoul(argv[argument], NULL, 10) : DEFAULT_ROUNDS;
     reference_init();
-    check_group("fourteen calls with random arguments");
+    check_group("fifteen calls with random arguments");
     for (unsigned long round = 0; round < rounds; round++) {
         unsigned call = (unsigned)random_below(CALLS);
         calls[call]++;

@@ -14,6 +14,13 @@ size_t command_len(uint32_t width, unsigned code)
     return code == FLIP ? 2 : 2 + (size_t)width;
 }
 
+size_t random_sheet_len(void)
+{
+    uint64_t most = random_below(20) == 0 ? SHEET_MOST_BYTES : 200;
+    size_t len = (size_t)random_below(most + 1);
+    return len == 1 ? 0 : len;
+}
+
 /* A code whose command leaves room that other commands can fill: anything but one byte. */
 static unsigned fitting_code(uint32_t width, size_t room)
 {
@@ -121,5 +128,32 @@ void damage_sheet(struct sheet *sheet)
     case 3: corrupt_place(random_command(sheet)); break;
     case 4: equal_places(sheet); break;
     default: corrupt_code(random_command(sheet));
+    }
+}
+
+void each_cut_command(uint32_t width, sheet_visitor *visit)
+{
+    uint8_t command[2 + 64 + 1];
+    for (unsigned code = 0; code < 256; code++) {
+        random_fill(command, sizeof command);
+        command[0] = (uint8_t)code;
+        command[1] = (uint8_t)(code % EDONR_PLACES);
+        command[2] = (uint8_t)((code + 1) % EDONR_PLACES);
+        for (size_t len = 1; len <= 2 + width + 1; len++)
+            visit(width, command, len);
+    }
+}
+
+void each_pair_of_places(uint32_t width, sheet_visitor *visit)
+{
+    enum { N = EDONR_PLACES };
+    static const uint8_t places[] = {0,     1,         3,     4,   N - 2, N - 1,   N,
+                                     N + 1, 2 * N - 1, 2 * N, 127, 128,   256 - N, 255};
+    enum { COUNT = sizeof places };
+    for (unsigned n = 0; n < LAST_CODE * COUNT * COUNT; n++) {
+        uint8_t code = (uint8_t)(1 + n / (COUNT * COUNT));
+        uint8_t sheet[2 + 2 + 64] = {FLIP, 0, code, places[n / COUNT % COUNT],
+                                     places[n % COUNT]};
+        visit(width, sheet, 2 + command_len(width, code));
     }
 }

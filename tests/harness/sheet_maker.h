@@ -19,6 +19,9 @@ struct sheet {
 /* The bytes that a command takes, by its code, 1 to 8. */
 size_t command_len(uint32_t width, unsigned code);
 
+/* Mostly short lengths, some of any that a sheet has; never 1, which no command fills. */
+size_t random_sheet_len(void);
+
 /* A sheet of exactly len bytes that a run at this width accepts. No command takes one
    byte, so len is not 1; it is at most SHEET_MOST_BYTES. */
 void make_sheet(uint32_t width, size_t len, struct sheet *sheet);
@@ -29,5 +32,14 @@ void make_counted_sheet(uint32_t width, size_t count, size_t len, struct sheet *
 
 /* One random damage; some damages leave another sheet that is accepted. */
 void damage_sheet(struct sheet *sheet);
+
+/* What is done with a sheet. */
+typedef void sheet_visitor(uint32_t width, const uint8_t *sheet, size_t sheet_len);
+
+/* Every first byte with sound places behind it, cut at every length. */
+void each_cut_command(uint32_t width, sheet_visitor *visit);
+
+/* Every command at sound and unsound places, behind a flip. */
+void each_pair_of_places(uint32_t width, sheet_visitor *visit);
 
 #endif

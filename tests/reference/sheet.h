@@ -1,6 +1,7 @@
 /*
- * Runs of a sheet over lent vectors: what edonr_run_forward and edonr_run_backward do,
- * written independently. reference_init comes first.
+ * Runs of a sheet over lent vectors, and its inverse sheet: what edonr_run_forward,
+ * edonr_run_backward and edonr_inverse_sheet do, written independently. Before a run,
+ * reference_init comes first.
  */
 #ifndef REFERENCE_SHEET_H
 #define REFERENCE_SHEET_H
@@ -14,7 +15,10 @@ uint64_t reference_run_forward(uint32_t width, uint8_t *vectors, size_t vectors_
 uint64_t reference_run_backward(uint32_t width, uint8_t *vectors, size_t vectors_len,
                                 const uint8_t *sheet, size_t sheet_len);
 
-/* The same over four vectors, V0 to V3, lent as 4 * w bytes: document 02, Paper 8, holds runs
+uint64_t reference_inverse_sheet(uint32_t width, const uint8_t *sheet, size_t sheet_len,
+                                 uint8_t *out, size_t out_len);
+
+/* The runs over four vectors, V0 to V3, lent as 4 * w bytes: document 02, Paper 8, holds runs
    over eight against these. */
 uint64_t reference_former_forward(uint32_t width, uint8_t *vectors, size_t vectors_len,
                                   const uint8_t *sheet, size_t sheet_len);

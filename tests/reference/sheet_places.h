@@ -52,14 +52,10 @@ static uint64_t check_command(uint32_t width, const uint8_t *sheet, size_t sheet
     return command_len(width, code);
 }
 
-/* The first refusal; or 0, with the offsets of the commands. */
-static uint64_t check_run(uint32_t width, size_t vectors_len, const uint8_t *sheet,
-                          size_t sheet_len, struct offsets *offsets)
+/* The first refusal of a sheet; or 0, with the offsets of its commands. */
+static uint64_t check_sheet(uint32_t width, const uint8_t *sheet, size_t sheet_len,
+                            struct offsets *offsets)
 {
-    if (width != 32 && width != 64)
-        return refuse(BAD_WIDTH, 0);
-    if (vectors_len != PLACES * width)
-        return refuse(BAD_LENGTH, 0);
     if (sheet_len > MOST_BYTES)
         return refuse(SHEET_TOO_LONG, 0);
     offsets->count = 0;
@@ -71,6 +67,17 @@ static uint64_t check_run(uint32_t width, size_t vectors_len, const uint8_t *she
         at += (size_t)len;
     }
     return 0;
+}
+
+/* The same of a run. */
+static uint64_t check_run(uint32_t width, size_t vectors_len, const uint8_t *sheet,
+                          size_t sheet_len, struct offsets *offsets)
+{
+    if (width != 32 && width != 64)
+        return refuse(BAD_WIDTH, 0);
+    if (vectors_len != PLACES * width)
+        return refuse(BAD_LENGTH, 0);
+    return check_sheet(width, sheet, sheet_len, offsets);
 }
 
 /* The command that undoes one, at the same places and with the same K. */

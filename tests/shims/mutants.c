@@ -1,7 +1,7 @@
 /*
  * Wrong archives: each call passes on to the archive's own, but for what the chosen mutant
  * does wrong. To be compiled with -DMUTANT=name, a name of the list below, and linked with
- * --wrap of all fourteen calls, so that the comparisons meet it in the archive's place.
+ * --wrap of all fifteen calls, so that the comparisons meet it in the archive's place.
  */
 #include <stdbool.h>
 #include <string.h>
@@ -39,6 +39,35 @@ enum mutant {
     run_leaves_upper_places,
     run_of_lower_places_writes_v7,
     sheet_length_by_32_bits,
+    inverse_always_refused,
+    inverse_idles,
+    inverse_of_2048_idles,
+    inverse_first_one_first,
+    inverse_loses_first,
+    inverse_loses_last,
+    inverse_codes_kept,
+    inverse_keyed_codes_kept,
+    inverse_sides_exchanged,
+    inverse_places_exchanged,
+    inverse_swap_exchanged,
+    inverse_k_reversed,
+    inverse_k_one_byte_off,
+    inverse_wide_as_narrow,
+    inverse_writes_behind,
+    inverse_changes_sheet,
+    inverse_answers_one_more,
+    inverse_answers_units,
+    inverse_answers_output,
+    inverse_output_before_sheet,
+    inverse_output_before_width,
+    inverse_needs_one_more,
+    inverse_refused_writes,
+    inverse_short_output_written,
+    inverse_offset_lost,
+    inverse_places_not_tested,
+    inverse_length_by_32_bits,
+    inverse_output_by_32_bits,
+    inverse_without_pointer,
     open_refused_writes,
     open_keeps_waiting,
     feed_refused_writes,
@@ -266,6 +295,141 @@ RUN(WRAP(run_forward))
 RUN(WRAP(run_backward))
 {
     return run(REAL(run_backward), true, width, vectors, vectors_len, sheet, sheet_len);
+}
+
+/* ---------------- inverse sheets ---------------- */
+
+#define INVERSE_SHEET(name)                                                                \
+    uint64_t name(uint32_t width, const uint8_t *sheet, size_t sheet_len, uint8_t *out,    \
+                  size_t out_len)
+
+INVERSE_SHEET(REAL(inverse_sheet));
+
+enum { MOST_SHEET = 4096 };
+
+static void exchange_bytes(uint8_t *a, uint8_t *b)
+{
+    uint8_t kept = *a;
+    *a = *b;
+    *b = kept;
+}
+
+/* The code that a mutant has in place of an undoing command's: the one of the other side,
+   or the one that was to be undone. */
+static uint8_t other_code(uint8_t code)
+{
+    if (IS(inverse_sides_exchanged) && code <= 4)
+        return code <= 2 ? 3 - code : 7 - code;
+    if (IS(inverse_codes_kept) && code <= 4)
+        return code <= 2 ? code + 2 : code - 2;
+    if ((IS(inverse_codes_kept) || IS(inverse_keyed_codes_kept)) && code > 6)
+        return 15 - code;
+    return code;
+}
+
+/* An undoing command. */
+static void spoil_command(uint32_t width, uint8_t *command)
+{
+    uint8_t code = command[0], *k = command + 2;
+    command[0] = other_code(code);
+    if ((IS(inverse_places_exchanged) && code <= 5) ||
+        (IS(inverse_swap_exchanged) && code == 5))
+        exchange_bytes(command + 1, command + 2);
+    for (size_t i = 0; IS(inverse_k_reversed) && code > 6 && i < width / 2; i++)
+        exchange_bytes(k + i, k + width - 1 - i);
+    for (size_t i = 1; IS(inverse_k_one_byte_off) && code > 6 && i < width; i++)
+        exchange_bytes(k + i - 1, k + i);
+}
+
+/* Each undoing command where the command stands that it undoes. */
+static void undo_in_order(uint32_t width, const uint8_t *sheet, size_t sheet_len,
+                          uint8_t *out)
+{
+    size_t len;
+    for (size_t at = 0; at < sheet_len; at += len) {
+        len = command_len(width, sheet[at]);
+        REAL(inverse_sheet)(width, sheet + at, len, out + at, len);
+    }
+}
+
+/* An inverse sheet, of which all or a part can be made what the output was before. */
+static void spoil_inverse(uint32_t width, const uint8_t *sheet, size_t sheet_len,
+                          uint8_t *out, const uint8_t before[MOST_SHEET])
+{
+    uint64_t commands = count_commands(width, sheet, sheet_len, 0);
+    for (size_t at = 0, len; at < sheet_len; at += len) {
+        len = command_len(width, out[at]);
+        spoil_command(width, out + at);
+    }
+    if (IS(inverse_first_one_first))
+        undo_in_order(width, sheet, sheet_len, out);
+    if (IS(inverse_idles) || (IS(inverse_of_2048_idles) && commands == 2048))
+        memcpy(out, before, sheet_len);
+    if (IS(inverse_loses_last) && commands > 0)
+        memcpy(out, before, command_len(width, out[0]));
+    if (IS(inverse_loses_first) && commands > 0) {
+        size_t at = sheet_len - command_len(width, sheet[0]);
+        memcpy(out + at, before + at, sheet_len - at);
+    }
+}
+
+static uint64_t other_inverse_refusal(uint64_t answer, size_t sheet_len, uint8_t *out,
+                                      size_t out_len)
+{
+    uint32_t refusal = edonr_refusal(answer);
+    bool by_width = refusal == EDONR_REFUSED_WIDTH;
+    bool writes = refusal == EDONR_REFUSED_OUTPUT ? IS(inverse_short_output_written)
+                                                  : IS(inverse_refused_writes);
+    if (writes && out_len > 0)
+        out[0] ^= 1;
+    if (out_len < sheet_len &&
+        (by_width ? IS(inverse_output_before_width) : IS(inverse_output_before_sheet)))
+        return edonr_refused(EDONR_REFUSED_OUTPUT, 0);
+    if (IS(inverse_places_not_tested) && refusal >= EDONR_REFUSED_PLACE)
+        return sheet_len;
+    return IS(inverse_offset_lost) ? edonr_refused(refusal, 0) : answer;
+}
+
+/* What is answered for an inverse sheet that is written. */
+static uint64_t other_length(uint32_t width, const uint8_t *sheet, size_t sheet_len,
+                             size_t out_len)
+{
+    if (IS(inverse_answers_one_more))
+        return sheet_len + 1;
+    if (IS(inverse_answers_output))
+        return out_len;
+    if (IS(inverse_answers_units))
+        return count_commands(width, sheet, sheet_len, 0) -
+               count_commands(width, sheet, sheet_len, 5) -
+               count_commands(width, sheet, sheet_len, 6);
+    return sheet_len;
+}
+
+INVERSE_SHEET(WRAP(inverse_sheet))
+{
+    uint8_t before[MOST_SHEET] = {0};
+    if (IS(inverse_length_by_32_bits))
+        sheet_len = (uint32_t)sheet_len;
+    if (IS(inverse_output_by_32_bits))
+        out_len = (uint32_t)out_len;
+    if (IS(inverse_wide_as_narrow) && width == 64)
+        width = 32;
+    if (IS(inverse_without_pointer) && sheet == NULL)
+        return edonr_refused(EDONR_REFUSED_SHEET, 0);
+    if (sheet_len > 0 && sheet_len <= MOST_SHEET && out_len >= sheet_len)
+        memcpy(before, out, sheet_len);
+    uint64_t answer = REAL(inverse_sheet)(width, sheet, sheet_len, out, out_len);
+    if (!succeeds(answer))
+        return other_inverse_refusal(answer, sheet_len, out, out_len);
+    if (IS(inverse_always_refused) || (IS(inverse_needs_one_more) && out_len == sheet_len))
+        return edonr_refused(EDONR_REFUSED_OUTPUT, 0);
+    spoil_inverse(width, sheet, sheet_len, out, before);
+    uint64_t length = other_length(width, sheet, sheet_len, out_len);
+    if (IS(inverse_writes_behind) && out_len > sheet_len)
+        out[sheet_len] ^= 1;
+    if (IS(inverse_changes_sheet) && sheet_len > 0)
+        ((uint8_t *)sheet)[sheet_len - 1] ^= 1;
+    return length;
 }
 
 /* ---------------- hashing in pieces ---------------- */

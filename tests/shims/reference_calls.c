@@ -54,6 +54,12 @@ uint64_t edonr_run_backward(uint32_t width, uint8_t *vectors, size_t vectors_len
     return reference_run_backward(width, vectors, vectors_len, sheet, sheet_len);
 }
 
+uint64_t edonr_inverse_sheet(uint32_t width, const uint8_t *sheet, size_t sheet_len,
+                             uint8_t *out, size_t out_len)
+{
+    return reference_inverse_sheet(width, sheet, sheet_len, out, out_len);
+}
+
 uint64_t edonr_block_forward(uint32_t width, uint8_t *pipe, size_t pipe_len,
                              const uint8_t *block, size_t block_len)
 {

@@ -11,6 +11,7 @@ ghost use Rattle.digest.specs.State.{openAnswer, opened, finishAnswer, finishOu
 ghost use Rattle.digest.specs.OneCall.{oneCallAnswer, oneCallOut};
 ghost use Rattle.invertible.specs.RoundTrip.{Forward, Backward};
 ghost use Rattle.sheet.specs.Run.{runAnswer, runBytes};
+ghost use Rattle.inverse.specs.Inverse.{inverseAnswer, inverseOut};
 ghost use Rattle.pipe.specs.Call.{stepAnswer, stepBytes};
 ghost use Rattle.narrow.specs.Outcomes.{narrowOf, hashOf as ofNarrow, fed as fedNarrow};
 ghost use Rattle.wide.specs.Outcomes.{wideOf, hashOf as ofWide, fed as fedWide};
@@ -69,6 +70,15 @@ pub extern "C" fn edonr_run_backward(width: u32, vectors: &mut [u8], sheet: &[u8
     ensures { λ _. ⌜ now (vectors .exit) ≡ runBytes Backward width (now (sheet .entry)) (now (vectors .entry)) ⌝ }
 {
     answer::number(run::run_backward(width, vectors, sheet))
+}
+
+// The inverse of the sheet, into as many bytes of `out` as the sheet has.
+#[no_mangle]
+pub extern "C" fn edonr_inverse_sheet(width: u32, sheet: &[u8], out: &mut [u8]) -> u64
+    ensures { λ r. ⌜ r ≡ numberOf (inverseAnswer width (now (sheet .entry)) (now (out .entry))) ⌝ }
+    ensures { λ _. ⌜ now (out .exit) ≡ inverseOut width (now (sheet .entry)) (now (out .entry)) ⌝ }
+{
+    answer::number(inverter::inverse_sheet(width, sheet, out))
 }
 
 // The pipe after the block, in its place.

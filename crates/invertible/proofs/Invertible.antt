@@ -1,6 +1,6 @@
 -- A list of invertible steps is undone by the list backwards.
 use mathlib.Core.Path.{_≡_, refl, sym, ap, ap₂, subst, _∙_}
-use mathlib.Core.List.{List, [], _∷_, _++_, map, reverse, reverse-cons}
+use mathlib.Core.List.{List, [], _∷_, _++_, map, map-append, reverse, reverse-cons}
 use Rattle.invertible.specs.Invertible.{stepped, outputs, Each, none, more, Invertible}
 
 pub each : {A : Type 0} {P : A → Type 0} → ((a : A) → P a) → (l : List A) → Each P l
@@ -19,6 +19,12 @@ pub each-reverse : {A : Type 0} {P : A → Type 0} {l : List A} → Each P l →
 each-reverse none = none
 each-reverse {P = P} (more {a} {l} p k) = subst (Each P) (sym (reverse-cons a l)) (each-snoc (each-reverse k) a p)
 
+pub map-reverse : {A B : Type 0} (f : A → B) (l : List A) → map f (reverse l) ≡ reverse (map f l)
+map-reverse f [] = refl
+map-reverse {B = B} f (a ∷ l) =
+    ap (map f) (reverse-cons a l) ∙ map-append f (reverse l) (a ∷ []) ∙ ap (λ (m : List B). m ++ (f a ∷ [])) (map-reverse f l)
+    ∙ sym (reverse-cons (f a) (map f l))
+
 -- what is the same of each element
 pub map-same : {A B : Type 0} {f h : A → B} {l : List A} → Each (λ a. f a ≡ h a) l → map f l ≡ map h l
 map-same none = refl
@@ -27,6 +33,12 @@ map-same {B = B} (more e k) = ap₂ {C = List B} (λ x y. x ∷ y) e (map-same k
 pub stepped-same : {A S : Type 0} {f h : A → S → S} {l : List A} → Each (λ a. (s : S) → f a s ≡ h a s) l → (s : S) → stepped f l s ≡ stepped h l s
 stepped-same none s = refl
 stepped-same {f = f} {h} (more {a} {l} e k) s = ap (stepped f l) (e s) ∙ stepped-same k (h a s)
+
+pub outputs-same : {A S O : Type 0} {f h : A → S → S} {o p : A → S → O} {l : List A} → Each (λ a. (s : S) → (f a s ≡ h a s) × (o a s ≡ p a s)) l → (s : S)
+    → outputs f o l s ≡ outputs h p l s
+outputs-same none s = refl
+outputs-same {O = O} {f} {h} {o} {p} (more {a} {l} e k) s =
+    ap₂ {C = List O} (λ x y. x ∷ y) (e s .1) (ap (outputs f o l) (e s .0) ∙ outputs-same k (h a s))
 
 module _ {A S : Type 0} (f : A → S → S) where
   pub stepped-snoc : (l : List A) (a : A) (s : S) → stepped f (l ++ (a ∷ [])) s ≡ f a (stepped f l s)

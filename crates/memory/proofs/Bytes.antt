@@ -7,7 +7,7 @@ use native.Mathlib.Numerals.{add-one}
 use native.Mathlib.Omega.{arith}
 use lib.Arith.{mod-mul}
 use lib.ListN.{length, getD, set, take, drop, length-append}
-use lib.Seq.{sets, drop-cons, take-add, drop-drop, getD-at, getD-drop}
+use lib.Seq.{sets, drop-cons, take-add, drop-drop, getD-at, getD-take, getD-drop}
 use Rattle.memory.proofs.Lists.{fromAt, spread, front}
 use Rattle.memory.specs.Bytes.{wordAt, wordsAt, bytes, bytesOf, Bytes}
 
@@ -108,6 +108,18 @@ pub words-drop : (k n j : ℕ) (s : List ℕ) (i : ℕ) → wordsAt k n (drop j 
 words-drop k zero j s i = refl
 words-drop k (suc n) j s i =
     ap₂ {B = List ℕ} {C = List ℕ} (λ x y. x ∷ y) (word-drop k j s i) (words-drop k n j s (i + k) ∙ ap (wordsAt k n s) (sym (add-assoc j i k)))
+
+-- ---- words in the first m elements of s
+
+word-take : (k m : ℕ) (s : List ℕ) (i : ℕ) → i + k ≤ m → wordAt k (take m s) i ≡ wordAt k s i
+word-take zero m s i h = refl
+word-take (suc k) m s i h = ap₂ {C = ℕ} (λ x y. x + 256 * y) (getD-take m s i 0 (omega arith)) (word-take k m s (i + 1) (omega arith))
+
+pub words-take : (k n m : ℕ) (s : List ℕ) (i : ℕ) → i + n * k ≤ m → wordsAt k n (take m s) i ≡ wordsAt k n s i
+words-take k zero m s i h = refl
+words-take k (suc n) m s i h =
+    let e = suc-mul n k in
+    ap₂ {B = List ℕ} {C = List ℕ} (λ x y. x ∷ y) (word-take k m s i (omega arith)) (words-take k n m s (i + k) (omega arith))
 
 -- ---- words from bytes that were written
 

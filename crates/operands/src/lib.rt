@@ -11,7 +11,7 @@ use answer::Answer;
 use answer::Refusal;
 
 // Whether the width is 32 or 64.
-fn known_width(width: u32) -> bool
+pub fn known_width(width: u32) -> bool
     ensures { λ r. ⌜ r ≡ knownWidth width ⌝ }
 {
     if width == 32 {

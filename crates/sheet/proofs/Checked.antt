@@ -43,7 +43,7 @@ module _ (w : ℕ) (s : List ℕ) (e : planOf w s .outcome ≡ Plans.Sound) wher
       let z : _≡_ {A = ℕ} 0 1 = cc in
       absurd (omega arith)
 
-  sound-short : length s ≤ 4096
+  pub sound-short : length s ≤ 4096
   sound-short = short-by (decLe (length s) 4096)
 
   -- .. and has at most 2,048 commands

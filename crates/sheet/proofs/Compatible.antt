@@ -1,7 +1,7 @@
 -- A sheet that is accepted among p places means the same among n, where n is not less than p: it is read alike, and a run of it leaves the vectors behind
 -- the first p.
 use mathlib.Core.Path.{_≡_, refl, sym, ap, ap₂, _∙_}
-use mathlib.Core.Bool.{Bool, true, false, cond, _||_, false≢true}
+use mathlib.Core.Bool.{Bool, true, false, cond, _||_}
 use mathlib.Core.List.{List, [], _∷_, _++_, append-assoc, sum}
 use Prim.Native.Nat.{ℕ, zero, suc, _+_, _*_, _/_, _≤_, _<_}
 use native.Mathlib.Nat.{zero-add, zero-mul, suc-mul, add-mul}
@@ -10,7 +10,6 @@ use borrow.Author.Tests.{leb-false, lt-leb, eq-eqb}
 use lib.Dec.{eqb, leb, ltb}
 use lib.ListN.{length, getD, set, take, drop, length-set, length-drop, List·getD-append}
 use lib.Seq.{set-append-left, take-all, take-at, drop-at}
-use Rattle.answer.specs.declared.Answer.{Answer}
 use Rattle.answer.specs.declared.Answer.the-variants.{Done}
 use Rattle.answer.specs.declared.Refusal.{Refusal}
 use Rattle.answer.specs.declared.Refusal.the-variants.{Sheet, Place, SamePlace}
@@ -40,7 +39,7 @@ use Rattle.sheet.specs.Run.{runVectorsAmong, runAnswerAmong, runBytesAmo
 use Rattle.sheet.specs.Sound.{SoundPlaces, SoundCommandAmong, SoundRead}
 use Rattle.sheet.specs.Compatible.{Compatible}
 use Rattle.sheet.proofs.Sound.{read-sound}
-use Rattle.sheet.proofs.SheetAnswer.{Passed, passes, by-tests}
+use Rattle.sheet.proofs.SheetAnswer.{Passed, passes, done-passed}
 use Rattle.sheet.proofs.Lent.{State, in-range, vectors-bytes, state-length, bytes-vectors-at, lent-state}
 use Rattle.sheet.proofs.Undoing.{sound-undone, invertible, run-state}
 
@@ -247,16 +246,10 @@ module _ (p r w : ℕ) (hw : Bytewise w) (b : List ℕ) (hb : Bytes b) (size : l
         ap (λ (v : List (List ℕ)). length (vectorBytes w (runVectorsAmong p g w s v))) front-vectors
         ∙ state-length w hw (runVectorsAmong p g w s (vectorsFrom w p b 0)) (run-state w hw s hs state g)
 
--- what is known of a sheet whose run among p places is done
-done-passed : (p w : ℕ) (s b : List ℕ) → isDone (runAnswerAmong p w s b) ≡ true → Passed p w (eqb (length b) (p * w)) s
-done-passed p w s b =
-    by-tests p w _ s _ (λ (a : Answer). isDone a ≡ true → Passed p w (eqb (length b) (p * w)) s)
-    (λ _ e. absurd (false≢true e)) (λ _ e. absurd (false≢true e)) (λ r i _ e. absurd (false≢true e)) (λ h _. h)
-
 module _ (p r : ℕ) (g : Direction) (w : ℕ) (s b : List ℕ) (hs : Bytes s) (hb : Bytes b) (size : length b ≡ (p + r) * w)
     (done : isDone (runAnswerAmong p w s (take (p * w) b)) ≡ true) where
   passed : Passed p w (eqb (length (take (p * w) b)) (p * w)) s
-  passed = done-passed p w s (take (p * w) b) done
+  passed = done-passed p w _ s _ done
 
   width : Bytewise w
   width = bytewise w (passed .width)

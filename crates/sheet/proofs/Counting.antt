@@ -1,7 +1,7 @@
 -- The units that reading tells, and those that a run answers.
 use mathlib.Core.Path.{_≡_, refl, sym, ap, subst, _∙_}
 use mathlib.Core.Bool.{true, false, _||_}
-use mathlib.Core.List.{List, [], _∷_, _++_, map, map-append, sum, sum-reverse, reverse, reverse-cons}
+use mathlib.Core.List.{List, map, sum, sum-reverse, reverse}
 use Prim.Native.Nat.{ℕ, _+_, _≤_}
 use native.Mathlib.Nat.{zero-add, add-assoc, add-comm}
 use native.Mathlib.Omega.{arith}
@@ -11,7 +11,7 @@ use lib.ListN.{length, getD}
 use Rattle.answer.specs.declared.Answer.{Answer}
 use Rattle.answer.specs.declared.Answer.the-variants.{Done}
 use Rattle.answer.proofs.Tests.{split, neither}
-use Rattle.invertible.proofs.Invertible.{each, map-same}
+use Rattle.invertible.proofs.Invertible.{each, map-reverse, map-same}
 use Rattle.quasigroup.specs.Tables.{knownWidth}
 use Rattle.quasigroup.proofs.Widths.{of-known}
 use Rattle.sheet.specs.declared.Places.{Places}
@@ -103,12 +103,6 @@ done-with g b (Fault r) h = refl
 done-with g b End h = refl
 
 -- ---- runs
-
-map-reverse : (f : ℕ → ℕ) (l : List ℕ) → map f (reverse l) ≡ reverse (map f l)
-map-reverse f [] = refl
-map-reverse f (i ∷ l) =
-    ap (map f) (reverse-cons i l) ∙ map-append f (reverse l) (i ∷ []) ∙ ap (λ (m : List ℕ). m ++ (f i ∷ [])) (map-reverse f l)
-    ∙ sym (reverse-cons (f i) (map f l))
 
 module _ (w : ℕ) (s : List ℕ) where
   done-at : (g : Direction) (i : ℕ) → unitsDone g (readAt w s i) ≡ unitsAt w s i

@@ -45,7 +45,7 @@ module _ (w : ℕ) (s : List ℕ) where
       split (λ (p : Plan). Inside (2 ^ 32) (p .outcome)) (ltb 4096 (length s)) _ _ (λ _. omega arith) λ h.
       below (scanFrom (length s) w s 0 .outcome) (ltb-false 4096 (length s) h) (inside (length s) 0)
 
-  fault-fits : (r : Refusal) (i : ℕ) → planOf w s .outcome ≡ Faulty r i → i < 2 ^ 32
+  pub fault-fits : (r : Refusal) (i : ℕ) → planOf w s .outcome ≡ Faulty r i → i < 2 ^ 32
   fault-fits r i e = subst (Inside (2 ^ 32)) e plan-inside
 
 pub run-fits : RunFits

@@ -1,12 +1,13 @@
 -- What a call that is given a sheet answers, by the tests in their order, whatever it goes on to answer.
-use mathlib.Core.Path.{_≡_, refl}
-use mathlib.Core.Bool.{Bool, true, false}
+use mathlib.Core.Path.{_≡_, refl, sym, _∙_}
+use mathlib.Core.Bool.{Bool, true, false, true≢false, false≢true}
 use mathlib.Core.List.{List}
 use Prim.Native.Nat.{ℕ}
 use Rattle.answer.specs.declared.Answer.{Answer}
 use Rattle.answer.specs.declared.Answer.the-variants.{Refused}
 use Rattle.answer.specs.declared.Refusal.{Refusal}
 use Rattle.answer.specs.declared.Refusal.the-variants.{Width, Operand}
+use Rattle.answer.specs.Refuse.{unless, isDone}
 use Rattle.answer.proofs.Refuse.{unless-cases}
 use Rattle.quasigroup.specs.Tables.{knownWidth}
 use Rattle.sheet.specs.Sheet.{Outcome, Sound, Faulty, planAmong}
@@ -16,6 +17,14 @@ sound-cases : (P : Answer → Type 0) (o : Outcome) (next : Answer) → ((r : Re
     → P (unlessSound o next)
 sound-cases P Sound next f g = g refl
 sound-cases P (Faulty r i) next f g = f r i refl
+
+-- a refusal by the tests is the same whatever comes next
+tests-alike : (a b : Answer) → isDone a ≡ true → (k fit : Bool) (o : Outcome) → isDone (unless k Width (unless fit Operand (unlessSound o a))) ≡ false
+    → unless k Width (unless fit Operand (unlessSound o a)) ≡ unless k Width (unless fit Operand (unlessSound o b))
+tests-alike a b d false fit o e = refl
+tests-alike a b d true false o e = refl
+tests-alike a b d true true (Faulty r i) e = refl
+tests-alike a b d true true Sound e = absurd (true≢false (sym d ∙ e))
 
 module _ (n w : ℕ) (fit : Bool) (s : List ℕ) where
   -- what is known behind the tests
@@ -54,3 +63,12 @@ module _ (n w : ℕ) (fit : Bool) (s : List ℕ) where
 
     pub refused-or : (P : Answer → Type 0) → ((r : Refusal) (i : ℕ) → P (Refused r i)) → (Passed → P next) → P (sheetAnswerAmong n w fit s next)
     refused-or P refused pass = by-tests P (λ _. refused Width 0) (λ _. refused Operand 0) (λ r i _. refused r i) pass
+
+    -- a success passed the tests, and a refusal where the next would be a success is by the tests
+    pub done-passed : isDone (sheetAnswerAmong n w fit s next) ≡ true → Passed
+    done-passed = by-tests (λ a. isDone a ≡ true → Passed) (λ _ e. absurd (false≢true e)) (λ _ e. absurd (false≢true e)) (λ r i _ e. absurd (false≢true e)) (λ p _. p)
+
+    pub refused-alike : (other : Answer) → isDone next ≡ true → isDone (sheetAnswerAmong n w fit s next) ≡ false
+        → sheetAnswerAmong n w fit s next ≡ sheetAnswerAmong n w fit s other
+    unfolding sheetAnswerAmong
+    refused-alike other d e = tests-alike next other d (knownWidth w) fit (planAmong n w s .outcome) e

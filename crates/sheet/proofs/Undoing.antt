@@ -84,7 +84,7 @@ sound-undone n w m (Flip d) h = h
 sound-undone n w m (Kmul d k) h = h
 sound-undone n w m (Kdiv d k) h = h
 
-undone-undone : (c : Command) → undone (undone c) ≡ c
+pub undone-undone : (c : Command) → undone (undone c) ≡ c
 undone-undone (Lmul p) = refl
 undone-undone (Rmul p) = refl
 undone-undone (Ldiv p) = refl
