@@ -82,10 +82,8 @@ static void check_counted(uint32_t width, size_t count, size_t len)
 static void compare_counts(uint32_t width)
 {
     check_group("sheets of 0 to %d commands, width %" PRIu32, MOST_COMMANDS, width);
-    for (size_t count = 0; count <= MOST_COMMANDS; count++) {
-        size_t longest = count <= MOST_OF_THREE ? 3 * count : SHEET_MOST_BYTES;
-        check_counted(width, count, 2 * count + random_below(longest - 2 * count + 1));
-    }
+    for (size_t count = 0; count <= MOST_COMMANDS; count++)
+        check_counted(width, count, random_counted_len(count));
 }
 
 /* The most commands: 2,048 flips, and 1,365 commands of three bytes. At random places,

@@ -21,6 +21,14 @@ size_t random_sheet_len(void)
     return len == 1 ? 0 : len;
 }
 
+size_t random_counted_len(size_t count)
+{
+    size_t least = 2 * count, most = 3 * count;
+    if (most > SHEET_MOST_BYTES)
+        most = SHEET_MOST_BYTES;
+    return least + (size_t)random_below(most - least + 1);
+}
+
 /* A code whose command leaves room that other commands can fill: anything but one byte. */
 static unsigned fitting_code(uint32_t width, size_t room)
 {

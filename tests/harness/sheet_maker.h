@@ -30,6 +30,9 @@ void make_sheet(uint32_t width, size_t len, struct sheet *sheet);
    to three bytes a command. */
 void make_counted_sheet(uint32_t width, size_t count, size_t len, struct sheet *sheet);
 
+/* A random length from two to three bytes a command, at most SHEET_MOST_BYTES. */
+size_t random_counted_len(size_t count);
+
 /* One random damage; some damages leave another sheet that is accepted. */
 void damage_sheet(struct sheet *sheet);
 

@@ -72,7 +72,7 @@ pub extern "C" fn edonr_run_backward(width: u32, vectors: &mut [u8], sheet: &[u8
     answer::number(run::run_backward(width, vectors, sheet))
 }
 
-// The inverse of the sheet, into as many bytes of `out` as the sheet has.
+// The inverse of the sheet, into the first bytes of `out`, as many as the sheet has.
 #[no_mangle]
 pub extern "C" fn edonr_inverse_sheet(width: u32, sheet: &[u8], out: &mut [u8]) -> u64
     ensures { λ r. ⌜ r ≡ numberOf (inverseAnswer width (now (sheet .entry)) (now (out .entry))) ⌝ }

@@ -6,7 +6,7 @@ ghost use lib.ListN.{length};
 ghost use lib.Seq.{sets};
 ghost use Rattle.sheet.specs.Read.{placeCount};
 ghost use Rattle.sheet.specs.Sound.{SoundPlaces, SoundCommand};
-ghost use Rattle.inverse.specs.Encoding.{keyBytes, encoded};
+ghost use Rattle.inverse.specs.Encoding.{immediate, encoded};
 use sheet::Command;
 use sheet::Places;
 
@@ -30,15 +30,23 @@ fn put_places(out: &mut [u8], at: usize, opcode: u8, p: Places)
     out[i] = p.s as u8;
 }
 
-// An opcode, a place and the vector at offset `k` of the sheet, from `at` on.
-fn put_key(width: u32, sheet: &[u8], k: usize, out: &mut [u8], at: usize, opcode: u8, d: usize)
-    requires { ⌜ (d < placeCount) × (k + width ≤ length (now sheet)) × (at + (width + 2) ≤ length (now out)) ⌝ }
-    ensures { λ _. ⌜ now (out .exit) ≡ sets (now (out .entry)) at (opcode ∷ d ∷ keyBytes width (now (sheet .entry)) k) ⌝ }
+// The bytes of the vector at offset `k` of the sheet.
+fn immediate_at(width: u32, sheet: &[u8], k: usize) -> &[u8]
+    requires { ⌜ k + width ≤ length (now sheet) ⌝ }
+    ensures { λ r. ⌜ now r ≡ immediate width (now (sheet .entry)) k ⌝ }
+{
+    let end = k + (width as usize);
+    &sheet[k..end]
+}
+
+// An opcode, a place and the bytes of a vector, from `at` on.
+fn put_immediate(out: &mut [u8], at: usize, opcode: u8, d: usize, vector: &[u8])
+    requires { ⌜ (d < placeCount) × (at + 2 + length (now vector) ≤ length (now out)) ⌝ }
+    ensures { λ _. ⌜ now (out .exit) ≡ sets (now (out .entry)) at (opcode ∷ d ∷ now (vector .entry)) ⌝ }
 {
     put_place(out, at, opcode, d);
-    let end = k + (width as usize);
     let to = at + 2;
-    memory::copy_at(out, to, &sheet[k..end]);
+    memory::copy_at(out, to, vector);
 }
 
 // A command of the sheet, from place `at` of `out` on.
@@ -53,7 +61,7 @@ pub fn encode(width: u32, sheet: &[u8], c: Command, out: &mut [u8], at: usize)
         Command::Rdiv(p) => put_places(out, at, 4, p),
         Command::Swap(p) => put_places(out, at, 5, p),
         Command::Flip(d) => put_place(out, at, 6, d),
-        Command::Kmul(d, k) => put_key(width, sheet, k, out, at, 7, d),
-        Command::Kdiv(d, k) => put_key(width, sheet, k, out, at, 8, d),
+        Command::Kmul(d, k) => put_immediate(out, at, 7, d, immediate_at(width, sheet, k)),
+        Command::Kdiv(d, k) => put_immediate(out, at, 8, d, immediate_at(width, sheet, k)),
     }
 }

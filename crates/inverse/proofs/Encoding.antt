@@ -22,12 +22,12 @@ use Rattle.sheet.proofs.Sound.{size-two, size-three, read-sound, got-sound}
 use Rattle.sheet.proofs.Scan.{plan-scanned}
 use Rattle.sheet.proofs.Checked.{sound-short}
 use Rattle.sheet.proofs.Enough.{steps-enough}
-use Rattle.inverse.specs.Encoding.{keyBytes, encoded, allEncoded, commandIn, commandsAt, ReadingDecodes, SheetsEncoded}
+use Rattle.inverse.specs.Encoding.{immediate, encoded, allEncoded, commandIn, commandsAt, ReadingDecodes, SheetsEncoded}
 use Rattle.inverse.proofs.Lists.{flat-none, flat-more}
 
 -- a K that lies in the sheet has all its bytes
-pub key-length : (w : ℕ) (s : List ℕ) (k : ℕ) → k + w ≤ length s → length (keyBytes w s k) ≡ w
-key-length w s k h = let l = length-drop k s in length-take-le w (drop k s) (omega arith)
+pub immediate-length : (w : ℕ) (s : List ℕ) (k : ℕ) → k + w ≤ length s → length (immediate w s k) ≡ w
+immediate-length w s k h = let l = length-drop k s in length-take-le w (drop k s) (omega arith)
 
 module _ (w : ℕ) (s : List ℕ) where
   -- ---- a command's bytes by its opcode b
@@ -51,7 +51,7 @@ module _ (w : ℕ) (s : List ℕ) where
       split P (eqb b 6) _ _ (λ e. rw (eqb-true b 6 e)) λ e.
       let size : sizeOf w b ≡ w + 2 = rw (le-ltb b 6 z, e) in
       let n : w ≡ sizeOf w b - 2 = omega arith in
-      let by : (j : ℕ) → j ≡ b → j ∷ d ∷ keyBytes w s k ≡ b ∷ d ∷ take (sizeOf w b - 2) (drop k s) =
+      let by : (j : ℕ) → j ≡ b → j ∷ d ∷ immediate w s k ≡ b ∷ d ∷ take (sizeOf w b - 2) (drop k s) =
       λ j h. ap₂ {C = List ℕ} (λ (x m : ℕ). x ∷ d ∷ take m (drop k s)) h n in
       split P (eqb b 7) _ _ (λ h. by 7 (sym (eqb-true b 7 h))) λ h.
       by 8 (omega (arith, above b 7 (above b 6 z e) h))

@@ -2,21 +2,19 @@
 use mathlib.Core.Path.{_≡_, refl, sym, ap, ap₂, _∙_}
 use mathlib.Core.Bool.{true}
 use mathlib.Core.List.{List, [], _∷_, map, map-map, reverse, reverse-reverse, sum, sum-reverse, flatMap, Forall₂}
-use Prim.Native.Nat.{ℕ, zero, suc, _+_, _*_, _≤_, _<_}
+use Prim.Native.Nat.{ℕ, _+_, _*_, _≤_, _<_}
 use native.Mathlib.Nat.{zero-add, add-assoc, add-comm}
 use native.Mathlib.Omega.{arith}
 use borrow.Author.Tests.{eq-eqb}
-use lib.Dec.{leb}
 use lib.ListN.{length, drop}
 use Rattle.answer.specs.declared.Answer.{Answer}
 use Rattle.answer.specs.declared.Answer.the-variants.{Done}
-use Rattle.answer.specs.declared.Refusal.the-variants.{Output}
-use Rattle.answer.specs.Refuse.{unless, isDone, outcome}
+use Rattle.answer.specs.Refuse.{isDone, outcome}
 use Rattle.invertible.specs.Invertible.{stepped, Each, none, more}
 use Rattle.invertible.specs.RoundTrip.{Direction, Forward, Backward, other}
-use Rattle.invertible.proofs.Invertible.{each, each-reverse, map-reverse, map-same, stepped-map, stepped-same}
+use Rattle.invertible.proofs.Invertible.{each, each-mapped, each-reverse, map-reverse, map-same, stepped-map, stepped-same}
 use Rattle.memory.specs.Bytes.{Bytes}
-use Rattle.memory.proofs.Bytes.{append-bytes, take-bytes, drop-bytes}
+use Rattle.memory.proofs.Bytes.{no-bytes, cons-bytes, append-bytes, take-bytes, drop-bytes}
 use Rattle.sheet.specs.declared.Places.{Places}
 use Rattle.sheet.specs.declared.Command.{Command}
 use Rattle.sheet.specs.declared.Command.the-variants.{Lmul, Rmul, Ldiv, Rdiv, Swap, Flip, Kmul, Kdiv}
@@ -34,10 +32,10 @@ use Rattle.sheet.proofs.SheetAnswer.{passes, done-passed, refused-alike}
 use Rattle.sheet.proofs.Checked.{sound-short}
 use Rattle.sheet.proofs.Counting.{undone-alike}
 use Rattle.sheet.proofs.Undoing.{sound-undone, undone-undone}
-use Rattle.inverse.specs.Encoding.{keyBytes, encoded, allEncoded, commandsOf}
-use Rattle.inverse.specs.Inverse.{inverseSheet}
-use Rattle.inverse.specs.Inverts.{Accepted, UndoingBytes, SheetsInvert, RefusesAsRuns}
-use Rattle.inverse.proofs.Lists.{flat-none, flat-more, flat-over, flat-length-reverse, flat-length-map, map-back, each-over}
+use Rattle.inverse.specs.Encoding.{Accepted, immediate, encoded, allEncoded, commandsOf}
+use Rattle.inverse.specs.Inverse.{inverseSheet, roomAnswer}
+use Rattle.inverse.specs.Inverts.{UndoingBytes, SheetsInvert, RefusesAsRuns}
+use Rattle.inverse.proofs.Lists.{flat-none, flat-more, flat-over, flat-length-reverse, flat-length-map, map-back}
 use Rattle.inverse.proofs.Lists.{pairs-reverse, pairs-map, pairs-stepped, pairs-flat}
 use Rattle.inverse.proofs.Encoding.{faithful}
 use Rattle.inverse.proofs.Reading.{Alike, ReadAs, read-as}
@@ -45,47 +43,37 @@ use Rattle.inverse.proofs.Commands.{run-forward, run-backward, run-unit
 
 -- ---- the bytes of a command
 
+-- an undoing command differs in the opcode alone
+undoing : (w : ℕ) (s : List ℕ) (c : Command) → (drop 1 (encoded w s (undone c)) ≡ drop 1 (encoded w s c)) × (length (encoded w s (undone c)) ≡ length (encoded w s c))
+undoing w s (Lmul p) = (refl, refl)
+undoing w s (Rmul p) = (refl, refl)
+undoing w s (Ldiv p) = (refl, refl)
+undoing w s (Rdiv p) = (refl, refl)
+undoing w s (Swap p) = (refl, refl)
+undoing w s (Flip d) = (refl, refl)
+undoing w s (Kmul d k) = (refl, refl)
+undoing w s (Kdiv d k) = (refl, refl)
+
 pub undoing-bytes : UndoingBytes
-undoing-bytes w s (Lmul p) = refl
-undoing-bytes w s (Rmul p) = refl
-undoing-bytes w s (Ldiv p) = refl
-undoing-bytes w s (Rdiv p) = refl
-undoing-bytes w s (Swap p) = refl
-undoing-bytes w s (Flip d) = refl
-undoing-bytes w s (Kmul d k) = refl
-undoing-bytes w s (Kdiv d k) = refl
+undoing-bytes w s c = undoing w s c .0
 
 pub undoing-length : (w : ℕ) (s : List ℕ) (c : Command) → length (encoded w s (undone c)) ≡ length (encoded w s c)
-undoing-length w s (Lmul p) = refl
-undoing-length w s (Rmul p) = refl
-undoing-length w s (Ldiv p) = refl
-undoing-length w s (Rdiv p) = refl
-undoing-length w s (Swap p) = refl
-undoing-length w s (Flip d) = refl
-undoing-length w s (Kmul d k) = refl
-undoing-length w s (Kdiv d k) = refl
+undoing-length w s c = undoing w s c .1
 
 -- what undoes commands is as long as they are
-pub turned-length : (w : ℕ) (s : List ℕ) (l : List Command) → length (allEncoded w s (reverse (map undone l))) ≡ length (allEncoded w s l)
-turned-length w s l = flat-length-reverse (encoded w s) (map undone l) ∙ flat-length-map (encoded w s) undone (undoing-length w s) l
-
-byte-more : (x : ℕ) (l : List ℕ) → x < 256 → Bytes l → Bytes (x ∷ l)
-byte-more x l h k zero = h
-byte-more x l h k (suc i) = k i
-
-no-bytes : Bytes []
-no-bytes i = omega arith
+pub inverse-length : (w : ℕ) (s : List ℕ) (l : List Command) → length (allEncoded w s (reverse (map undone l))) ≡ length (allEncoded w s l)
+inverse-length w s l = flat-length-reverse (encoded w s) (map undone l) ∙ flat-length-map (encoded w s) undone (undoing-length w s) l
 
 module _ (w : ℕ) (s : List ℕ) (hs : Bytes s) where
-  key-bytes : (k : ℕ) → Bytes (keyBytes w s k)
-  key-bytes k = take-bytes w (drop k s) (drop-bytes k s hs)
+  immediate-bytes : (k : ℕ) → Bytes (immediate w s k)
+  immediate-bytes k = take-bytes w (drop k s) (drop-bytes k s hs)
 
   -- opcode, place and rest
   front-bytes : (b d : ℕ) (l : List ℕ) → b ≤ 8 → d < placeCount → Bytes l → Bytes (b ∷ d ∷ l)
-  front-bytes b d l e h k = byte-more b (d ∷ l) (omega arith) (byte-more d l (omega arith) k)
+  front-bytes b d l e h k = cons-bytes b (d ∷ l) (omega arith) (cons-bytes d l (omega arith) k)
 
   two-bytes : (b : ℕ) (p : Places) → b ≤ 8 → SoundPlaces placeCount p → Bytes (b ∷ p .d ∷ p .s ∷ [])
-  two-bytes b p e h = front-bytes b (p .d) (p .s ∷ []) e (h .first) (byte-more (p .s) [] (omega (arith, h .second)) no-bytes)
+  two-bytes b p e h = front-bytes b (p .d) (p .s ∷ []) e (h .first) (cons-bytes (p .s) [] (omega (arith, h .second)) no-bytes)
 
   encoded-bytes : (c : Command) → SoundCommand w (length s) c → Bytes (encoded w s c)
   encoded-bytes (Lmul p) h = two-bytes 1 p (omega arith) h
@@ -94,8 +82,8 @@ module _ (w : ℕ) (s : List ℕ) (hs : Bytes s) where
   encoded-bytes (Rdiv p) h = two-bytes 4 p (omega arith) h
   encoded-bytes (Swap p) h = two-bytes 5 p (omega arith) h
   encoded-bytes (Flip d) h = front-bytes 6 d [] (omega arith) h no-bytes
-  encoded-bytes (Kmul d k) h = front-bytes 7 d (keyBytes w s k) (omega arith) (h .place) (key-bytes k)
-  encoded-bytes (Kdiv d k) h = front-bytes 8 d (keyBytes w s k) (omega arith) (h .place) (key-bytes k)
+  encoded-bytes (Kmul d k) h = front-bytes 7 d (immediate w s k) (omega arith) (h .place) (immediate-bytes k)
+  encoded-bytes (Kdiv d k) h = front-bytes 8 d (immediate w s k) (omega arith) (h .place) (immediate-bytes k)
 
   all-bytes : {l : List Command} → Each (SoundCommand w (length s)) l → Bytes (allEncoded w s l)
   all-bytes none = rw (flat-none (encoded w s)) no-bytes
@@ -114,10 +102,10 @@ module _ (w : ℕ) (s : List ℕ) (h : Accepted w s) where
   t = inverseSheet w s
 
   back-sound : Each (SoundCommand w (length s)) back
-  back-sound = each-reverse (each-over undone (λ c k. sound-undone placeCount w (length s) c k) (faithful w s h .sound))
+  back-sound = each-reverse (each-mapped undone (λ c k. sound-undone placeCount w (length s) c k) (faithful w s h .sound))
 
   size : length t ≡ length s
-  size = turned-length w s commands ∙ ap length (faithful w s h .bytes)
+  size = inverse-length w s commands ∙ ap length (faithful w s h .bytes)
 
   read : ReadAs w s t 0 back
   read = read-as w s back-sound []
@@ -140,14 +128,14 @@ module _ (w : ℕ) (s : List ℕ) (h : Accepted w s) where
       ∙ reverse-reverse (map undone (map undone commands))
       ∙ map-back undone undone-undone commands
 
-  turned-bytes : (l : List Command) (u : List ℕ) → allEncoded w u (reverse (map undone l)) ≡ flatMap (λ c. encoded w u (undone c)) (reverse l)
-  turned-bytes l u = ap (allEncoded w u) (sym (map-reverse undone l)) ∙ flat-over (encoded w u) undone (reverse l)
+  inverse-bytes : (l : List Command) (u : List ℕ) → allEncoded w u (reverse (map undone l)) ≡ flatMap (λ c. encoded w u (undone c)) (reverse l)
+  inverse-bytes l u = ap (allEncoded w u) (sym (map-reverse undone l)) ∙ flat-over (encoded w u) undone (reverse l)
 
   twice : inverseSheet w t ≡ s
   twice =
-      turned-bytes (commandsOf w t) t
+      inverse-bytes (commandsOf w t) t
       ∙ pairs-flat (λ a c k. k .bytes) (pairs-reverse alike)
-      ∙ sym (turned-bytes back s)
+      ∙ sym (inverse-bytes back s)
       ∙ ap (allEncoded w s) back-undone
       ∙ faithful w s h .bytes
 
@@ -200,7 +188,7 @@ pub refuses-as-runs : RefusesAsRuns
 refuses-as-runs w s b out size =
     let fit = eq-eqb (length b) (placeCount * w) size in
     let done = Done (totalUnits w s (planOf w s .offsets)) in
-    let next = unless (leb (length s) (length out)) Output (Done (length s)) in
+    let next = roomAnswer (length s) (length out) in
     record {
       refused = λ r i e. let f = rw fit at e in sym (refused-alike placeCount w true s done next refl (ap isDone f)) ∙ f;
       done = λ n e. let f = rw fit at e in sym (passes placeCount w true s next (done-passed placeCount w true s done (ap isDone f)));

@@ -5,7 +5,7 @@ use mathlib.Core.List.{Forall₂, Forall₂·nil, Forall₂·cons}
 use Prim.Native.Nat.{_+_}
 use native.Mathlib.Omega.{arith}
 use lib.ListN.{length, length-append}
-use Rattle.invertible.specs.Invertible.{stepped, Each, none, more}
+use Rattle.invertible.specs.Invertible.{stepped}
 
 -- ---- pieces
 
@@ -71,10 +71,6 @@ flat-over {C = C} f h (a ∷ l) =
 pub map-back : {A : Type 0} (h : A → A) → ((a : A) → h (h a) ≡ a) → (l : List A) → map h (map h l) ≡ l
 map-back h e [] = refl
 map-back {A} h e (a ∷ l) = ap₂ {C = List A} (λ x y. x ∷ y) (e a) (map-back h e l)
-
-pub each-over : {A B : Type 0} {P : A → Type 0} {Q : B → Type 0} (h : A → B) → ((a : A) → P a → Q (h a)) → {l : List A} → Each P l → Each Q (map h l)
-each-over h f none = none
-each-over h f (more {a} p k) = more (f a p) (each-over h f k)
 
 -- ---- pairs
 

@@ -25,9 +25,9 @@ use Rattle.sheet.specs.Run.{turned}
 use Rattle.sheet.specs.Sound.{SoundPlaces, SoundCommand}
 use Rattle.sheet.proofs.Sound.{size-three}
 use Rattle.sheet.proofs.Scan.{read-end}
-use Rattle.inverse.specs.Encoding.{keyBytes, encoded, allEncoded, commandIn, commandsAt}
+use Rattle.inverse.specs.Encoding.{immediate, encoded, allEncoded, commandIn, commandsAt}
 use Rattle.inverse.proofs.Lists.{flat-none, flat-more}
-use Rattle.inverse.proofs.Encoding.{key-length}
+use Rattle.inverse.proofs.Encoding.{immediate-length}
 
 -- ---- reading behind the bytes p
 
@@ -85,77 +85,33 @@ relocated k (Flip d) = Flip d
 relocated k (Kmul d j) = Kmul d k
 relocated k (Kdiv d j) = Kdiv d k
 
-relocated-undone : (k : ℕ) (c : Command) → undone (relocated k c) ≡ relocated k (undone c)
-relocated-undone k (Lmul p) = refl
-relocated-undone k (Rmul p) = refl
-relocated-undone k (Ldiv p) = refl
-relocated-undone k (Rdiv p) = refl
-relocated-undone k (Swap p) = refl
-relocated-undone k (Flip d) = refl
-relocated-undone k (Kmul d j) = refl
-relocated-undone k (Kdiv d j) = refl
-
-relocated-units : (k : ℕ) (c : Command) → units (relocated k c) ≡ units c
-relocated-units k (Lmul p) = refl
-relocated-units k (Rmul p) = refl
-relocated-units k (Ldiv p) = refl
-relocated-units k (Rdiv p) = refl
-relocated-units k (Swap p) = refl
-relocated-units k (Flip d) = refl
-relocated-units k (Kmul d j) = refl
-relocated-units k (Kdiv d j) = refl
-
 -- K's words are those of its bytes
-key-words : (w : ℕ) (s : List ℕ) (k : ℕ) → vectorAt w (keyBytes w s k) 0 ≡ vectorAt w s k
-key-words w s k =
+immediate-words : (w : ℕ) (s : List ℕ) (k : ℕ) → vectorAt w (immediate w s k) 0 ≡ vectorAt w s k
+immediate-words w s k =
     let z : k + 0 ≡ k = omega arith in
     let eight : 0 + 8 * (w / 8) ≤ w = omega arith in
     words-take (w / 8) 8 w (drop k s) 0 eight ∙ words-drop (w / 8) 8 k s 0 ∙ ap (vectorAt w s) z
 
 module _ (w : ℕ) (s t : List ℕ) where
   -- K, if the command has one, stands at offset k of t
-  abbrev KeyAt : ℕ → Command → Type 0
-  KeyAt k (Lmul p) = Unit {0}
-  KeyAt k (Rmul p) = Unit {0}
-  KeyAt k (Ldiv p) = Unit {0}
-  KeyAt k (Rdiv p) = Unit {0}
-  KeyAt k (Swap p) = Unit {0}
-  KeyAt k (Flip d) = Unit {0}
-  KeyAt k (Kmul d j) = keyBytes w t k ≡ keyBytes w s j
-  KeyAt k (Kdiv d j) = keyBytes w t k ≡ keyBytes w s j
+  abbrev ImmediateAt : ℕ → Command → Type 0
+  ImmediateAt k (Lmul p) = Unit {0}
+  ImmediateAt k (Rmul p) = Unit {0}
+  ImmediateAt k (Ldiv p) = Unit {0}
+  ImmediateAt k (Rdiv p) = Unit {0}
+  ImmediateAt k (Swap p) = Unit {0}
+  ImmediateAt k (Flip d) = Unit {0}
+  ImmediateAt k (Kmul d j) = immediate w t k ≡ immediate w s j
+  ImmediateAt k (Kdiv d j) = immediate w t k ≡ immediate w s j
 
-  key-undone : (k : ℕ) (c : Command) → KeyAt k c → KeyAt k (undone c)
-  key-undone k (Lmul p) h = h
-  key-undone k (Rmul p) h = h
-  key-undone k (Ldiv p) h = h
-  key-undone k (Rdiv p) h = h
-  key-undone k (Swap p) h = h
-  key-undone k (Flip d) h = h
-  key-undone k (Kmul d j) h = h
-  key-undone k (Kdiv d j) h = h
+  same-words : (k j : ℕ) → immediate w t k ≡ immediate w s j → vectorAt w t k ≡ vectorAt w s j
+  same-words k j h = sym (immediate-words w t k) ∙ ap (λ (l : List ℕ). vectorAt w l 0) h ∙ immediate-words w s j
 
-  relocated-bytes : (k : ℕ) (c : Command) → KeyAt k c → encoded w t (relocated k c) ≡ encoded w s c
-  relocated-bytes k (Lmul p) h = refl
-  relocated-bytes k (Rmul p) h = refl
-  relocated-bytes k (Ldiv p) h = refl
-  relocated-bytes k (Rdiv p) h = refl
-  relocated-bytes k (Swap p) h = refl
-  relocated-bytes k (Flip d) h = refl
-  relocated-bytes k (Kmul d j) h = ap (λ (l : List ℕ). 7 ∷ d ∷ l) h
-  relocated-bytes k (Kdiv d j) h = ap (λ (l : List ℕ). 8 ∷ d ∷ l) h
+  multiplied : (d k j : ℕ) → immediate w t k ≡ immediate w s j → (v : List (List ℕ)) → effect w t (Kmul d k) v ≡ effect w s (Kmul d j) v
+  multiplied d k j h v = ap (λ (x : List ℕ). set v d (product (widthOf w) x (at v d))) (same-words k j h)
 
-  same-words : (k j : ℕ) → keyBytes w t k ≡ keyBytes w s j → vectorAt w t k ≡ vectorAt w s j
-  same-words k j h = sym (key-words w t k) ∙ ap (λ (l : List ℕ). vectorAt w l 0) h ∙ key-words w s j
-
-  relocated-effect : (k : ℕ) (c : Command) → KeyAt k c → (v : List (List ℕ)) → effect w t (relocated k c) v ≡ effect w s c v
-  relocated-effect k (Lmul p) h v = refl
-  relocated-effect k (Rmul p) h v = refl
-  relocated-effect k (Ldiv p) h v = refl
-  relocated-effect k (Rdiv p) h v = refl
-  relocated-effect k (Swap p) h v = refl
-  relocated-effect k (Flip d) h v = refl
-  relocated-effect k (Kmul d j) h v = ap (λ (x : List ℕ). set v d (product (widthOf w) x (at v d))) (same-words k j h)
-  relocated-effect k (Kdiv d j) h v = ap (λ (x : List ℕ). set v d (leftDivision (widthOf w) x (at v d))) (same-words k j h)
+  divided : (d k j : ℕ) → immediate w t k ≡ immediate w s j → (v : List (List ℕ)) → effect w t (Kdiv d k) v ≡ effect w s (Kdiv d j) v
+  divided d k j h v = ap (λ (x : List ℕ). set v d (leftDivision (widthOf w) x (at v d))) (same-words k j h)
 
   -- the command a of t does what the command c of s does, forward and backward; the command that undoes it has the same bytes; and it has the same units
   pub record Alike (a c : Command) : Type 0 where
@@ -163,30 +119,41 @@ module _ (w : ℕ) (s t : List ℕ) where
     pub bytes : encoded w t (undone a) ≡ encoded w s (undone c)
     pub counted : units a ≡ units c
 
-  turned-effect : (k : ℕ) (c : Command) → KeyAt k c → (g : Direction) (v : List (List ℕ))
-      → effect w t (turned g (relocated k c)) v ≡ effect w s (turned g c) v
-  turned-effect k c h Forward v = relocated-effect k c h v
-  turned-effect k c h Backward v =
-      ap (λ (a : Command). effect w t a v) (relocated-undone k c) ∙ relocated-effect k (undone c) (key-undone k c h) v
+  either-way : (a c : Command) → ((v : List (List ℕ)) → effect w t a v ≡ effect w s c v) → ((v : List (List ℕ)) → effect w t (undone a) v ≡ effect w s (undone c) v)
+      → (g : Direction) (v : List (List ℕ)) → effect w t (turned g a) v ≡ effect w s (turned g c) v
+  either-way a c f b Forward v = f v
+  either-way a c f b Backward v = b v
 
-  relocated-alike : (k : ℕ) (c : Command) → KeyAt k c → Alike (relocated k c) c
-  relocated-alike k c h =
+  relocated-alike : (k : ℕ) (c : Command) → ImmediateAt k c → Alike (relocated k c) c
+  relocated-alike k (Lmul p) h = record { effects = either-way (Lmul p) (Lmul p) (λ v. refl) (λ v. refl); bytes = refl; counted = refl }
+  relocated-alike k (Rmul p) h = record { effects = either-way (Rmul p) (Rmul p) (λ v. refl) (λ v. refl); bytes = refl; counted = refl }
+  relocated-alike k (Ldiv p) h = record { effects = either-way (Ldiv p) (Ldiv p) (λ v. refl) (λ v. refl); bytes = refl; counted = refl }
+  relocated-alike k (Rdiv p) h = record { effects = either-way (Rdiv p) (Rdiv p) (λ v. refl) (λ v. refl); bytes = refl; counted = refl }
+  relocated-alike k (Swap p) h = record { effects = either-way (Swap p) (Swap p) (λ v. refl) (λ v. refl); bytes = refl; counted = refl }
+  relocated-alike k (Flip d) h = record { effects = either-way (Flip d) (Flip d) (λ v. refl) (λ v. refl); bytes = refl; counted = refl }
+  relocated-alike k (Kmul d j) h =
       record {
-        effects = turned-effect k c h;
-        bytes = ap (encoded w t) (relocated-undone k c) ∙ relocated-bytes k (undone c) (key-undone k c h);
-        counted = relocated-units k c;
+        effects = either-way (Kmul d k) (Kmul d j) (multiplied d k j h) (divided d k j h);
+        bytes = ap (λ (l : List ℕ). 8 ∷ d ∷ l) h;
+        counted = refl;
+      }
+  relocated-alike k (Kdiv d j) h =
+      record {
+        effects = either-way (Kdiv d k) (Kdiv d j) (divided d k j h) (multiplied d k j h);
+        bytes = ap (λ (l : List ℕ). 7 ∷ d ∷ l) h;
+        counted = refl;
       }
 
 -- ---- the bytes of a command of s, between p and q
 
 module _ (w : ℕ) (s p q : List ℕ) where
   -- K, behind an opcode and a place
-  key-stands : (b d k : ℕ) → k + w ≤ length s → keyBytes w (p ++ (b ∷ d ∷ (keyBytes w s k ++ q))) (length p + 2) ≡ keyBytes w s k
-  key-stands b d k h =
-      ap (take w) (drop-append-add p (b ∷ d ∷ (keyBytes w s k ++ q)) 2) ∙ take-at (keyBytes w s k) q w (key-length w s k h)
+  immediate-stands : (b d k : ℕ) → k + w ≤ length s → immediate w (p ++ (b ∷ d ∷ (immediate w s k ++ q))) (length p + 2) ≡ immediate w s k
+  immediate-stands b d k h =
+      ap (take w) (drop-append-add p (b ∷ d ∷ (immediate w s k ++ q)) 2) ∙ take-at (immediate w s k) q w (immediate-length w s k h)
 
-  key-fits : (k : ℕ) → k + w ≤ length s → w + 2 ≤ 2 + length (keyBytes w s k ++ q)
-  key-fits k h = omega (arith, length-append (keyBytes w s k) q, key-length w s k h)
+  immediate-fits : (k : ℕ) → k + w ≤ length s → w + 2 ≤ 2 + length (immediate w s k ++ q)
+  immediate-fits k h = omega (arith, length-append (immediate w s k) q, immediate-length w s k h)
 
   abbrev ReadBack : Command → Type 0
   ReadBack c = readAt w (p ++ (encoded w s c ++ q)) (length p) ≡ got (relocated (length p + 2) c) (length p + length (encoded w s c))
@@ -199,25 +166,25 @@ module _ (w : ℕ) (s p q : List ℕ) where
   read-back (Swap x) h = read-two w p 5 (omega arith) (omega arith) x q ∙ two-sound 5 x (length p + 3) h
   read-back (Flip d) h = read-one w p 6 (omega arith) (omega arith) d q (omega arith) ∙ one-sound 6 d (length p + 2) (length p + 2) h
   read-back (Kmul d k) h =
-      let e : length p + (w + 2) ≡ length p + length (encoded w s (Kmul d k)) = omega (arith, key-length w s k (h .within)) in
-      read-one w p 7 (omega arith) (omega arith) d (keyBytes w s k ++ q) (key-fits k (h .within))
+      let e : length p + (w + 2) ≡ length p + length (encoded w s (Kmul d k)) = omega (arith, immediate-length w s k (h .within)) in
+      read-one w p 7 (omega arith) (omega arith) d (immediate w s k ++ q) (immediate-fits k (h .within))
       ∙ one-sound 7 d (length p + 2) (length p + (w + 2)) (h .place)
       ∙ ap (got (Kmul d (length p + 2))) e
   read-back (Kdiv d k) h =
-      let e : length p + (w + 2) ≡ length p + length (encoded w s (Kdiv d k)) = omega (arith, key-length w s k (h .within)) in
-      read-one w p 8 (omega arith) (omega arith) d (keyBytes w s k ++ q) (key-fits k (h .within))
+      let e : length p + (w + 2) ≡ length p + length (encoded w s (Kdiv d k)) = omega (arith, immediate-length w s k (h .within)) in
+      read-one w p 8 (omega arith) (omega arith) d (immediate w s k ++ q) (immediate-fits k (h .within))
       ∙ one-sound 8 d (length p + 2) (length p + (w + 2)) (h .place)
       ∙ ap (got (Kdiv d (length p + 2))) e
 
-  key-at : (c : Command) → SoundCommand w (length s) c → KeyAt w s (p ++ (encoded w s c ++ q)) (length p + 2) c
-  key-at (Lmul x) h = tt
-  key-at (Rmul x) h = tt
-  key-at (Ldiv x) h = tt
-  key-at (Rdiv x) h = tt
-  key-at (Swap x) h = tt
-  key-at (Flip d) h = tt
-  key-at (Kmul d k) h = key-stands 7 d k (h .within)
-  key-at (Kdiv d k) h = key-stands 8 d k (h .within)
+  immediate-at : (c : Command) → SoundCommand w (length s) c → ImmediateAt w s (p ++ (encoded w s c ++ q)) (length p + 2) c
+  immediate-at (Lmul x) h = tt
+  immediate-at (Rmul x) h = tt
+  immediate-at (Ldiv x) h = tt
+  immediate-at (Rdiv x) h = tt
+  immediate-at (Swap x) h = tt
+  immediate-at (Flip d) h = tt
+  immediate-at (Kmul d k) h = immediate-stands 7 d k (h .within)
+  immediate-at (Kdiv d k) h = immediate-stands 8 d k (h .within)
 
 -- ---- the bytes of commands of s, behind p
 
@@ -240,7 +207,7 @@ module _ (w : ℕ) (s : List ℕ) where
       record {
         offsets = length p ∷ rest .offsets;
         plan = at-command read on;
-        commands = rw f (Forall₂·cons (relocated-alike w s t (length p + 2) c (key-at w s p q c h)) (rest .commands));
+        commands = rw f (Forall₂·cons (relocated-alike w s t (length p + 2) c (immediate-at w s p q c h)) (rest .commands));
       }
 
   pub read-as : {l : List Command} → Each (SoundCommand w (length s)) l → (p : List ℕ) → ReadAs (p ++ allEncoded w s l) (length p) l

@@ -7,8 +7,8 @@ use Rattle.invertible.specs.RoundTrip.{Forward}
 use Rattle.invertible.proofs.Invertible.{each-map, each-reverse, stepped-map, stepped-same, outputs-map, outputs-same}
 use Rattle.sheet.specs.RoundTrip.{Run, answerTo, after, exchanged}
 use Rattle.sheet.proofs.RoundTrip.{round-trips}
-use Rattle.inverse.specs.Inverts.{Accepted}
-use Rattle.inverse.specs.RoundTrip.{inverted, InverseRoundTrips, ForwardComesHome}
+use Rattle.inverse.specs.Encoding.{Accepted}
+use Rattle.inverse.specs.RoundTrip.{inverted, InverseRoundTrips, ForwardRoundTrips}
 use Rattle.inverse.proofs.Inverts.{sheets-invert}
 
 -- a run of the inverse sheet is a run of the sheet in the other direction
@@ -18,7 +18,7 @@ exchanged-alike r h b = let i = sheets-invert (r .width) (r .sheet) h in (i .run
 
 pub inverse-round-trips : InverseRoundTrips
 inverse-round-trips l hl ha b hb =
-    let home = round-trips l hl b hb in
+    let trip = round-trips l hl b hb in
     let out = stepped after l b in
     let back = each-reverse ha in
     record {
@@ -26,17 +26,17 @@ inverse-round-trips l hl ha b hb =
           stepped-map after inverted (reverse l) out
           ∙ stepped-same (each-map (λ r h s. exchanged-alike r h s .0) back) out
           ∙ sym (stepped-map after exchanged (reverse l) out)
-          ∙ home .state;
+          ∙ trip .state;
       same =
           outputs-map after answerTo inverted (reverse l) out
           ∙ outputs-same (each-map (λ r h s. exchanged-alike r h s) back) out
           ∙ sym (outputs-map after answerTo exchanged (reverse l) out)
-          ∙ home .same;
+          ∙ trip .same;
     }
 
 -- of the list of one run
-pub forward-comes-home : ForwardComesHome
-forward-comes-home w s hs h b hb =
+pub forward-round-trips : ForwardRoundTrips
+forward-round-trips w s hs h b hb =
     let r : Run = record { direction = Forward; width = w; sheet = s } in
-    let home = inverse-round-trips (r ∷ []) (more hs none) (more h none) b hb in
-    record { state = home .state; same = head-eq-of-cons-eq (home .same) }
+    let trip = inverse-round-trips (r ∷ []) (more hs none) (more h none) b hb in
+    record { state = trip .state; same = head-eq-of-cons-eq (trip .same) }

@@ -1,8 +1,8 @@
 -- Document 02, Paper 1: the inverse sheet, which it calls the sheet that goes home, and the call that writes it.
+use mathlib.Core.Bool.{true}
 use mathlib.Core.List.{List, _++_, map, reverse}
 use Prim.Native.Nat.{ℕ}
 use lib.Dec.{leb}
-use mathlib.Core.Bool.{true}
 use lib.ListN.{length, drop}
 use Rattle.answer.specs.declared.Answer.{Answer}
 use Rattle.answer.specs.declared.Answer.the-variants.{Done}
@@ -16,10 +16,18 @@ use Rattle.inverse.specs.Encoding.{allEncoded, commandsOf}
 abbrev pub inverseSheet : ℕ → List ℕ → List ℕ
 inverseSheet w s = allEncoded w s (reverse (map undone (commandsOf w s)))
 
--- The call's answer: 5; 7 to 11 as for a run; 4, the output is shorter than the sheet; or the sheet's length
-abbrev pub inverseAnswer : ℕ → List ℕ → List ℕ → Answer
-inverseAnswer w s out = sheetAnswer w true s (unless (leb (length s) (length out)) Output (Done (length s)))
+-- the output with the inverse sheet in its first bytes, and the bytes behind it as they were
+abbrev pub inverseWritten : ℕ → List ℕ → List ℕ → List ℕ
+inverseWritten w s out = inverseSheet w s ++ drop (length s) out
 
--- .. and the output afterwards: the inverse sheet and then the bytes behind it as they were, or, after a refusal, all as they were
+-- 4, the output's n bytes are fewer than the sheet's m; or m
+abbrev pub roomAnswer : ℕ → ℕ → Answer
+roomAnswer m n = unless (leb m n) Output (Done m)
+
+-- The call's answer: 5; 7 to 11 as for a run; 4; or the sheet's length
+abbrev pub inverseAnswer : ℕ → List ℕ → List ℕ → Answer
+inverseAnswer w s out = sheetAnswer w true s (roomAnswer (length s) (length out))
+
+-- .. and the output afterwards; a refused call changes no byte
 abbrev pub inverseOut : ℕ → List ℕ → List ℕ → List ℕ
-inverseOut w s out = outcome (inverseAnswer w s out) (inverseSheet w s ++ drop (length s) out) out
+inverseOut w s out = outcome (inverseAnswer w s out) (inverseWritten w s out) out

@@ -2,25 +2,17 @@
 use mathlib.Core.Path.{_≡_}
 use mathlib.Core.List.{List}
 use Prim.Native.Nat.{ℕ, _*_}
-use lib.Dec.{leb}
 use lib.ListN.{length, drop}
 use Rattle.answer.specs.declared.Answer.the-variants.{Done, Refused}
 use Rattle.answer.specs.declared.Refusal.{Refusal}
-use Rattle.answer.specs.declared.Refusal.the-variants.{Output}
-use Rattle.answer.specs.Refuse.{unless}
 use Rattle.invertible.specs.RoundTrip.{Direction, other}
 use Rattle.memory.specs.Bytes.{Bytes}
 use Rattle.sheet.specs.declared.Command.{Command}
 use Rattle.sheet.specs.Read.{placeCount}
-use Rattle.sheet.specs.Sheet.{Sound, planOf}
 use Rattle.sheet.specs.Effect.{undone}
 use Rattle.sheet.specs.Run.{runAnswer, runBytes}
-use Rattle.inverse.specs.Encoding.{encoded}
-use Rattle.inverse.specs.Inverse.{inverseSheet, inverseAnswer}
-
--- a sheet is accepted at width w if it has none of the faults 7 to 11
-abbrev pub Accepted : ℕ → List ℕ → Type 0
-Accepted w s = planOf w s .outcome ≡ Sound
+use Rattle.inverse.specs.Encoding.{Accepted, encoded}
+use Rattle.inverse.specs.Inverse.{inverseSheet, roomAnswer, inverseAnswer}
 
 -- an undoing command has the bytes of the command that it undoes, in the same order, but for the opcode
 abbrev pub UndoingBytes : Type 0
@@ -42,7 +34,7 @@ SheetsInvert = (w : ℕ) (s : List ℕ) → Accepted w s → Inverts w s
 -- The call refuses a sheet as a run does, over vectors b that have their length: with the same number and offset. 4 comes last, where the run is not refused
 pub record RefusesAlike (w : ℕ) (s b out : List ℕ) : Type 0 where
   pub refused : (r : Refusal) (i : ℕ) → runAnswer w s b ≡ Refused r i → inverseAnswer w s out ≡ Refused r i
-  pub done : (n : ℕ) → runAnswer w s b ≡ Done n → inverseAnswer w s out ≡ unless (leb (length s) (length out)) Output (Done (length s))
+  pub done : (n : ℕ) → runAnswer w s b ≡ Done n → inverseAnswer w s out ≡ roomAnswer (length s) (length out)
 
 abbrev pub RefusesAsRuns : Type 0
 RefusesAsRuns = (w : ℕ) (s b out : List ℕ) → length b ≡ placeCount * w → RefusesAlike w s b out

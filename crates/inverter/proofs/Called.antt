@@ -1,32 +1,30 @@
 -- What the call knows and leaves once its tests have answered.
 use mathlib.Core.Path.{_≡_, refl, sym, ap, _∙_}
 use mathlib.Core.Bool.{Bool, true, false, not}
-use mathlib.Core.List.{List, _++_}
+use mathlib.Core.List.{List}
 use Prim.Native.Nat.{ℕ, _≤_}
 use borrow.Author.Tests.{leb-true}
 use lib.Dec.{leb}
-use lib.ListN.{length, drop}
+use lib.ListN.{length}
 use Rattle.answer.specs.declared.Answer.{Answer}
 use Rattle.answer.specs.declared.Answer.the-variants.{Done}
 use Rattle.answer.specs.declared.Refusal.the-variants.{Output}
-use Rattle.answer.specs.Refuse.{unless, isDone}
+use Rattle.answer.specs.Refuse.{isDone}
 use Rattle.answer.proofs.Tests.{goes-on, stops}
 use Rattle.answer.proofs.Refuse.{unless-done}
 use Rattle.answer.proofs.Outcome.{ends-refused, ends-done}
 use Rattle.sheet.specs.Read.{placeCount}
 use Rattle.sheet.specs.SheetAnswer.{sheetAnswer}
 use Rattle.sheet.proofs.SheetAnswer.{Passed, passes, done-passed, refused-alike}
-use Rattle.inverse.specs.Inverse.{inverseSheet, inverseAnswer, inverseOut}
-use Rattle.inverse.specs.Inverts.{Accepted}
+use Rattle.inverse.specs.Encoding.{Accepted}
+use Rattle.inverse.specs.Inverse.{inverseWritten, roomAnswer, inverseAnswer, inverseOut}
 
 module _ (w : ℕ) (s out : List ℕ) where
-  -- the output after a success
   abbrev new : List ℕ
-  new = inverseSheet w s ++ drop (length s) out
+  new = inverseWritten w s out
 
-  -- what the test of the room answers
   abbrev next : Answer
-  next = unless (leb (length s) (length out)) Output (Done (length s))
+  next = roomAnswer (length s) (length out)
 
   -- the call returns r and leaves `last`
   abbrev Ended : Answer → List ℕ → Type 0

@@ -1,2 +1,2 @@
-pub mod Turned
+pub mod Inverting
 pub mod Called

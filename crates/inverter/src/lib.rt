@@ -1,16 +1,12 @@
 // The inverse sheet of a load sheet, which document 02 calls the sheet that goes home.
 ghost use mathlib.Core.Path.{_≡_};
 ghost use mathlib.Core.Bool.{true};
-ghost use mathlib.Core.List.{_++_};
 ghost use Prim.Native.Nat.{_≤_};
-ghost use lib.Dec.{leb};
-ghost use lib.ListN.{length, drop};
+ghost use lib.ListN.{length};
 ghost use Rattle.answer.specs.declared.Answer.the-variants.{Done};
-ghost use Rattle.answer.specs.declared.Refusal.the-variants.{Output};
-ghost use Rattle.answer.specs.Refuse.{unless};
 ghost use Rattle.sheet.specs.SheetAnswer.{sheetAnswer};
-ghost use Rattle.inverse.specs.Inverse.{inverseSheet, inverseAnswer, inverseOut};
-ghost use Rattle.inverse.specs.Inverts.{Accepted};
+ghost use Rattle.inverse.specs.Encoding.{Accepted};
+ghost use Rattle.inverse.specs.Inverse.{inverseWritten, roomAnswer, inverseAnswer, inverseOut};
 use answer::Answer;
 use answer::Refusal;
 use sheet::Read;
@@ -32,7 +28,7 @@ fn sheet_answer(width: u32, sheet: &[u8]) -> Answer
 
 // What the test of the output's room answers, for a sheet of `size` bytes.
 fn room_answer(size: usize, room: usize) -> Answer
-    ensures { λ r. ⌜ r ≡ unless (leb size room) Output (Done size) ⌝ }
+    ensures { λ r. ⌜ r ≡ roomAnswer size room ⌝ }
 {
     if room < size {
         return Answer::Refused(Refusal::Output, 0);
@@ -44,7 +40,7 @@ fn room_answer(size: usize, room: usize) -> Answer
 // read once, from its start on, and no offsets are remembered.
 fn write_inverse(width: u32, sheet: &[u8], out: &mut [u8])
     requires { ⌜ Accepted width (now sheet) × (length (now sheet) ≤ length (now out)) ⌝ }
-    ensures { λ _. let s = now (sheet .entry) in ⌜ now (out .exit) ≡ inverseSheet width s ++ drop (length s) (now (out .entry)) ⌝ }
+    ensures { λ _. ⌜ now (out .exit) ≡ inverseWritten width (now (sheet .entry)) (now (out .entry)) ⌝ }
 {
     let mut at = 0;
     loop {

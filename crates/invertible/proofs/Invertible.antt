@@ -11,6 +11,10 @@ pub each-map : {A : Type 0} {P Q : A → Type 0} {l : List A} → ((a : A) → P
 each-map h none = none
 each-map h (more {a} p k) = more (h a p) (each-map h k)
 
+pub each-mapped : {A B : Type 0} {P : A → Type 0} {Q : B → Type 0} (h : A → B) → ((a : A) → P a → Q (h a)) → {l : List A} → Each P l → Each Q (map h l)
+each-mapped h f none = none
+each-mapped h f (more {a} p k) = more (f a p) (each-mapped h f k)
+
 each-snoc : {A : Type 0} {P : A → Type 0} {l : List A} → Each P l → (a : A) → P a → Each P (l ++ (a ∷ []))
 each-snoc none a p = more p none
 each-snoc (more q k) a p = more q (each-snoc k a p)

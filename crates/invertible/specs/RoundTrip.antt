@@ -1,5 +1,6 @@
--- Document 01, demand 3: the way home of a list of calls on the same state, such as lent memory. A call is of any kind that has an `exchanged` one: the
--- same call in the other direction. The statement; proofs/RoundTrip.antt shows it of calls that can be taken back.
+-- Document 01, demand 3: the way home of a list of calls on the same state, such as lent memory. A call is of any kind that has an `exchanged` one to take it
+-- back: the same call in the other direction, as in demand 3, or one in its own direction that does the same. The statement; proofs/RoundTrip.antt shows it
+-- of calls that can be taken back.
 use mathlib.Core.Path.{_≡_}
 use mathlib.Core.List.{List, map, reverse}
 use Rattle.invertible.specs.Invertible.{stepped, outputs}
@@ -12,7 +13,7 @@ abbrev pub other : Direction → Direction
 other Forward = Backward
 other Backward = Forward
 
--- document 01's way home: the list from its last call to its first, each in the other direction
+-- document 01's way home: the list from its last call to its first, each exchanged
 abbrev pub reversal : {C : Type 0} → (C → C) → List C → List C
 reversal exchanged l = map exchanged (reverse l)
 

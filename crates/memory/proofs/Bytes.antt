@@ -72,6 +72,13 @@ bytesOf-append k (x ∷ u) v = ap (λ (l : List ℕ). bytes k x ++ l) (bytesOf-a
 
 -- ---- what words are written as are bytes
 
+pub no-bytes : Bytes []
+no-bytes i = omega arith
+
+pub cons-bytes : (x : ℕ) (l : List ℕ) → x < 256 → Bytes l → Bytes (x ∷ l)
+cons-bytes x l h k zero = h
+cons-bytes x l h k (suc i) = k i
+
 pub append-bytes : (a b : List ℕ) → Bytes a → Bytes b → Bytes (a ++ b)
 append-bytes [] b f g i = g i
 append-bytes (x ∷ a) b f g zero = f 0

@@ -1,4 +1,5 @@
 // What product and divisions on lent bytes answer, and steps of one block: decided by the width, the lengths of the operands and the room of the output.
+// Calls that take a sheet test their width here too.
 pub mod step;
 
 ghost use mathlib.Core.Path.{_≡_};

@@ -9,15 +9,14 @@ use Rattle.sheet.specs.Read.{placeCount}
 use Rattle.sheet.specs.Sound.{SoundCommand}
 use Rattle.sheet.proofs.Sound.{got-sound}
 use Rattle.sheet.proofs.Undoing.{sound-undone}
-use Rattle.inverse.specs.Encoding.{encoded}
-use Rattle.inverse.specs.Inverts.{Accepted}
+use Rattle.inverse.specs.Encoding.{Accepted, encoded}
 use Rattle.inverse.proofs.Inverts.{undoing-length}
-use Rattle.inverter.proofs.Turned.{Turning, started, here-size, more, ended, faulty}
+use Rattle.inverter.proofs.Inverting.{Inverting, started, here-size, more, ended, faulty}
 use Rattle.inverter.proofs.write_inverse.Statement.{statement}
 use Rattle.inverter.proofs.write_inverse.Tie as tie
 
 abbrev Inv-loop : tie.InvT-loop
-Inv-loop width sheet out₀ at₀ out at = Accepted width sheet × Turning width sheet out₀ out at
+Inv-loop width sheet out₀ at₀ out at = Accepted width sheet × Inverting width sheet out₀ out at
 
 abbrev μ-loop : tie.MeasureT-loop
 μ-loop width sheet out₀ at₀ out at = length sheet - at

@@ -17,12 +17,11 @@ use Rattle.sheet.specs.Effect.{undone}
 use Rattle.sheet.proofs.Scan.{plan-scanned}
 use Rattle.sheet.proofs.Rest.{rest-got, rest-fault, rest-end}
 use Rattle.sheet.proofs.Checked.{sound-short}
-use Rattle.inverse.specs.Encoding.{encoded, allEncoded, commandIn, commandsAt}
-use Rattle.inverse.specs.Inverse.{inverseSheet}
-use Rattle.inverse.specs.Inverts.{Accepted}
+use Rattle.inverse.specs.Encoding.{Accepted, encoded, allEncoded, commandIn, commandsAt}
+use Rattle.inverse.specs.Inverse.{inverseSheet, inverseWritten}
 use Rattle.inverse.proofs.Lists.{flat-none, flat-more, flat-last}
 use Rattle.inverse.proofs.Encoding.{reading-decodes, faithful-rest}
-use Rattle.inverse.proofs.Inverts.{turned-length, undoing-length}
+use Rattle.inverse.proofs.Inverts.{inverse-length, undoing-length}
 
 -- b stored behind the place where a will end, and then a from the start: the two, one behind the other
 stored-last : (l a b : List ℕ) (i : ℕ) → length a ≡ i → i + length b ≤ length l → sets (sets l i b) 0 a ≡ sets l 0 (a ++ b)
@@ -44,28 +43,28 @@ module _ (w : ℕ) (s : List ℕ) where
   abbrev rest : ℕ → List Command
   rest i = commandsAt w s (scanFrom (length s) w s i .offsets)
 
-  abbrev pub turned : ℕ → List ℕ
-  turned i = allEncoded w s (reverse (map undone (rest i)))
+  abbrev pub inverseFrom : ℕ → List ℕ
+  inverseFrom i = allEncoded w s (reverse (map undone (rest i)))
 
   -- the rest of the sheet is sound
   abbrev pub SoundFrom : ℕ → Type 0
   SoundFrom i = scanFrom (length s) w s i .outcome ≡ Sound
 
-  turned-size : (i : ℕ) → SoundFrom i → length (turned i) ≡ length s - i
-  turned-size i h = turned-length w s (rest i) ∙ ap length (faithful-rest w s i h .bytes) ∙ length-drop i s
+  inverse-size : (i : ℕ) → SoundFrom i → length (inverseFrom i) ≡ length s - i
+  inverse-size i h = inverse-length w s (rest i) ∙ ap length (faithful-rest w s i h .bytes) ∙ length-drop i s
 
   pub sound-start : Accepted w s → SoundFrom 0
   sound-start h = ap (λ (p : Plan). p .outcome) (plan-scanned placeCount w s (sound-short w s h)) ∙ h
 
   -- out₀ is the output at the start, out as it is now, with what undoes the commands before i at the sheet's end
-  pub record Turning (out₀ out : List ℕ) (i : ℕ) : Type 0 where
+  pub record Inverting (out₀ out : List ℕ) (i : ℕ) : Type 0 where
     pub within : i ≤ length s
     pub sound : SoundFrom i
     pub room : length s ≤ length out
     pub same : length out ≡ length out₀
-    pub stored : sets out 0 (turned i) ≡ sets out₀ 0 (turned 0)
+    pub stored : sets out 0 (inverseFrom i) ≡ sets out₀ 0 (inverseFrom 0)
 
-  pub started : (out : List ℕ) → Accepted w s → length s ≤ length out → Turning out out 0
+  pub started : (out : List ℕ) → Accepted w s → length s ≤ length out → Inverting out out 0
   started out h r = record { within = omega arith; sound = sound-start h; room = r; same = refl; stored = refl }
 
   module _ (i : ℕ) (d : Decoded) (e : readAt w s i ≡ Got d) where
@@ -73,8 +72,8 @@ module _ (w : ℕ) (s : List ℕ) where
     abbrev here : List ℕ
     here = encoded w s (undone (d .command))
 
-    turned-more : turned i ≡ turned (d .next) ++ here
-    turned-more =
+    inverse-more : inverseFrom i ≡ inverseFrom (d .next) ++ here
+    inverse-more =
         let l = scanFrom (length s) w s (d .next) .offsets in
         let f : rest i ≡ d .command ∷ rest (d .next) =
         ap (λ (p : Plan). commandsAt w s (p .offsets)) (rest-got placeCount w s i d e)
@@ -92,8 +91,8 @@ module _ (w : ℕ) (s : List ℕ) where
         omega (arith, undoing-length w s (d .command), length-append c (drop (d .next) s), length-drop (d .next) s, length-drop i s)
 
     -- the command that undoes it was written
-    pub more : {out₀ out last : List ℕ} → Turning out₀ out i → d .next ≤ length s → i ≤ d .next → {back : Command} → back ≡ undone (d .command)
-        → last ≡ sets out (length s - d .next) (encoded w s back) → Turning out₀ last (d .next)
+    pub more : {out₀ out last : List ℕ} → Inverting out₀ out i → d .next ≤ length s → i ≤ d .next → {back : Command} → back ≡ undone (d .command)
+        → last ≡ sets out (length s - d .next) (encoded w s back) → Inverting out₀ last (d .next)
     more {out = out} {last} now within on eb eo =
         let step = rest-got placeCount w s i d e in
         let sound : SoundFrom (d .next) = sym (ap (λ (p : Plan). p .outcome) step) ∙ now .sound in
@@ -108,28 +107,28 @@ module _ (w : ℕ) (s : List ℕ) where
           room = omega arith;
           same = size ∙ now .same;
           stored =
-              ap (λ (l : List ℕ). sets l 0 (turned (d .next))) el
-              ∙ stored-last out (turned (d .next)) here n (turned-size (d .next) sound) fits
-              ∙ ap (sets out 0) (sym turned-more)
+              ap (λ (l : List ℕ). sets l 0 (inverseFrom (d .next))) el
+              ∙ stored-last out (inverseFrom (d .next)) here n (inverse-size (d .next) sound) fits
+              ∙ ap (sets out 0) (sym inverse-more)
               ∙ now .stored;
         }
 
-  module _ {out₀ out : List ℕ} {i : ℕ} (now : Turning out₀ out i) (h : Accepted w s) where
-    pub ended : readAt w s i ≡ End → out ≡ inverseSheet w s ++ drop (length s) out₀
+  module _ {out₀ out : List ℕ} {i : ℕ} (now : Inverting out₀ out i) (h : Accepted w s) where
+    pub ended : readAt w s i ≡ End → out ≡ inverseWritten w s out₀
     ended e =
-        let none : turned i ≡ [] =
+        let none : inverseFrom i ≡ [] =
         ap (λ (l : List ℕ). allEncoded w s (reverse (map undone (commandsAt w s l)))) (rest-end placeCount w s i e)
         ∙ ap (λ (l : List Command). allEncoded w s (reverse (map undone l))) (flat-none (λ i. commandIn (readAt w s i)))
         ∙ flat-none (encoded w s) in
-        let whole : turned 0 ≡ inverseSheet w s =
+        let whole : inverseFrom 0 ≡ inverseSheet w s =
         ap (λ (p : Plan). allEncoded w s (reverse (map undone (commandsAt w s (p .offsets))))) (plan-scanned placeCount w s (sound-short w s h)) in
-        let start = turned-size 0 (sound-start h) in
-        let size : length (turned 0) ≡ length s = omega arith in
+        let start = inverse-size 0 (sound-start h) in
+        let size : length (inverseFrom 0) ≡ length s = omega arith in
         let room = now .room in
         let same = now .same in
-        (rw none at (now .stored)) ∙ front out₀ (turned 0) (omega arith) ∙ ap₂ {C = List ℕ} (λ (t : List ℕ) (n : ℕ). t ++ drop n out₀) whole size
+        (rw none at (now .stored)) ∙ front out₀ (inverseFrom 0) (omega arith) ∙ ap₂ {C = List ℕ} (λ (t : List ℕ) (n : ℕ). t ++ drop n out₀) whole size
 
-    pub faulty : (r : Refusal) → readAt w s i ≡ Fault r → out ≡ inverseSheet w s ++ drop (length s) out₀
+    pub faulty : (r : Refusal) → readAt w s i ≡ Fault r → out ≡ inverseWritten w s out₀
     faulty r e =
         let o = sym (ap (λ (p : Plan). p .outcome) (rest-fault placeCount w s i r e)) ∙ now .sound in
         let z : _≡_ {A = ℕ} 0 1 = cc in
