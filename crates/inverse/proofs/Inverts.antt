@@ -1,15 +1,19 @@
 -- The inverse of an accepted sheet.
 use mathlib.Core.Path.{_≡_, refl, sym, ap, ap₂, _∙_}
-use mathlib.Core.Bool.{true}
+use mathlib.Core.Bool.{Bool, true}
 use mathlib.Core.List.{List, [], _∷_, map, map-map, reverse, reverse-reverse, sum, sum-reverse, flatMap, Forall₂}
 use Prim.Native.Nat.{ℕ, _+_, _*_, _≤_, _<_}
 use native.Mathlib.Nat.{zero-add, add-assoc, add-comm}
 use native.Mathlib.Omega.{arith}
 use borrow.Author.Tests.{eq-eqb}
-use lib.ListN.{length, drop}
+use lib.Dec.{leb}
+use lib.ListN.{length, take, drop}
+use lib.Seq.{take-at, drop-at}
 use Rattle.answer.specs.declared.Answer.{Answer}
 use Rattle.answer.specs.declared.Answer.the-variants.{Done}
-use Rattle.answer.specs.Refuse.{isDone, outcome}
+use Rattle.answer.specs.declared.Refusal.the-variants.{Output}
+use Rattle.answer.specs.Refuse.{unless, isDone, outcome}
+use Rattle.answer.proofs.Refuse.{done-outcome, unless-done}
 use Rattle.invertible.specs.Invertible.{stepped, Each, none, more}
 use Rattle.invertible.specs.RoundTrip.{Direction, Forward, Backward, other}
 use Rattle.invertible.proofs.Invertible.{each, each-mapped, each-reverse, map-reverse, map-same, stepped-map, stepped-same}
@@ -33,8 +37,8 @@ use Rattle.sheet.proofs.Checked.{sound-short}
 use Rattle.sheet.proofs.Counting.{undone-alike}
 use Rattle.sheet.proofs.Undoing.{sound-undone, undone-undone}
 use Rattle.inverse.specs.Encoding.{Accepted, immediate, encoded, allEncoded, commandsOf}
-use Rattle.inverse.specs.Inverse.{inverseSheet, roomAnswer}
-use Rattle.inverse.specs.Inverts.{UndoingBytes, SheetsInvert, RefusesAsRuns}
+use Rattle.inverse.specs.Inverse.{inverseSheet, inverseWritten, roomAnswer, inverseAnswer}
+use Rattle.inverse.specs.Inverts.{UndoingBytes, SheetsInvert, RefusesAsRuns, SuccessWrites}
 use Rattle.inverse.proofs.Lists.{flat-none, flat-more, flat-over, flat-length-reverse, flat-length-map, map-back}
 use Rattle.inverse.proofs.Lists.{pairs-reverse, pairs-map, pairs-stepped, pairs-flat}
 use Rattle.inverse.proofs.Encoding.{faithful}
@@ -192,4 +196,23 @@ refuses-as-runs w s b out size =
     record {
       refused = λ r i e. let f = rw fit at e in sym (refused-alike placeCount w true s done next refl (ap isDone f)) ∙ f;
       done = λ n e. let f = rw fit at e in sym (passes placeCount w true s next (done-passed placeCount w true s done (ap isDone f)));
+    }
+
+-- ---- a success
+
+pub success-writes : SuccessWrites
+success-writes w s out d =
+    let m = length s in
+    let next = roomAnswer m (length out) in
+    let p = done-passed placeCount w true s next d in
+    let room = sym (passes placeCount w true s next p) in
+    let fits = unless-done (leb m (length out)) Output (Done m) (sym (ap isDone room) ∙ d) .0 in
+    let answered = room ∙ ap (λ (t : Bool). unless t Output (Done m)) fits in
+    let left = sym (done-outcome (inverseAnswer w s out) (inverseWritten w s out) out d) in
+    let inv = inverseSheet w s in
+    record {
+      accepted = p .sheet;
+      answer = answered;
+      first = ap (take m) left ∙ take-at inv (drop m out) m (size w s (p .sheet));
+      behind = ap (drop m) left ∙ drop-at inv (drop m out) m (size w s (p .sheet));
     }

@@ -1,10 +1,12 @@
 -- Document 02, Paper 1, in its words: what holds of the inverse of an accepted sheet. The statements; proofs/Inverts.antt shows them.
 use mathlib.Core.Path.{_≡_}
+use mathlib.Core.Bool.{true}
 use mathlib.Core.List.{List}
 use Prim.Native.Nat.{ℕ, _*_}
-use lib.ListN.{length, drop}
+use lib.ListN.{length, take, drop}
 use Rattle.answer.specs.declared.Answer.the-variants.{Done, Refused}
 use Rattle.answer.specs.declared.Refusal.{Refusal}
+use Rattle.answer.specs.Refuse.{isDone}
 use Rattle.invertible.specs.RoundTrip.{Direction, other}
 use Rattle.memory.specs.Bytes.{Bytes}
 use Rattle.sheet.specs.declared.Command.{Command}
@@ -12,7 +14,7 @@ use Rattle.sheet.specs.Read.{placeCount}
 use Rattle.sheet.specs.Effect.{undone}
 use Rattle.sheet.specs.Run.{runAnswer, runBytes}
 use Rattle.inverse.specs.Encoding.{Accepted, encoded}
-use Rattle.inverse.specs.Inverse.{inverseSheet, roomAnswer, inverseAnswer}
+use Rattle.inverse.specs.Inverse.{inverseSheet, roomAnswer, inverseAnswer, inverseOut}
 
 -- an undoing command has the bytes of the command that it undoes, in the same order, but for the opcode
 abbrev pub UndoingBytes : Type 0
@@ -38,3 +40,13 @@ pub record RefusesAlike (w : ℕ) (s b out : List ℕ) : Type 0 where
 
 abbrev pub RefusesAsRuns : Type 0
 RefusesAsRuns = (w : ℕ) (s b out : List ℕ) → length b ≡ placeCount * w → RefusesAlike w s b out
+
+-- A success is of an accepted sheet: it answers the sheet's length, its inverse stands in the first bytes of the output, and each byte behind stays in its place
+pub record Written (w : ℕ) (s out : List ℕ) : Type 0 where
+  pub accepted : Accepted w s
+  pub answer : inverseAnswer w s out ≡ Done (length s)
+  pub first : take (length s) (inverseOut w s out) ≡ inverseSheet w s
+  pub behind : drop (length s) (inverseOut w s out) ≡ drop (length s) out
+
+abbrev pub SuccessWrites : Type 0
+SuccessWrites = (w : ℕ) (s out : List ℕ) → isDone (inverseAnswer w s out) ≡ true → Written w s out
