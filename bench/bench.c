@@ -21,7 +21,7 @@
 
 enum { REPEATS = 25 };
 
-static const double slice_seconds = 0.002;
+static const double least_seconds = 0.002;
 
 static const struct {
     char letter;
@@ -30,6 +30,7 @@ static const struct {
     {'A', bench_product},
     {'B', bench_digest},
     {'C', bench_sheets},
+    {'C', bench_slices},
     {'C', bench_inverse_sheets},
     {'E', bench_blocks},
 };
@@ -48,7 +49,7 @@ static double run_once(const struct work *work)
 static void choose_rounds(struct work *work)
 {
     work->rounds = 1;
-    while (run_once(work) < slice_seconds)
+    while (run_once(work) < least_seconds)
         work->rounds *= 2;
 }
 

@@ -21,6 +21,7 @@ void bench_measure(struct work *works, size_t count);
 void bench_product(void);
 void bench_digest(void);
 void bench_sheets(void);
+void bench_slices(void);
 void bench_inverse_sheets(void);
 void bench_blocks(void);
 

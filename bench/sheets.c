@@ -4,8 +4,9 @@
 #include "../tests/harness/rng.h"
 #include "../tests/harness/run_call.h"
 #include "bench.h"
+#include "product_sheet.h"
 
-enum { MOST_BYTES = 4096, FLIP = 6, FLIP_BYTES = 2, PRODUCT_BYTES = 3 };
+enum { MOST_BYTES = 4096, FLIP = 6, FLIP_BYTES = 2 };
 
 /* Sheets of products are measured over the first few places and over all of them: vectors
    that fit into the registers of some processor, and twice as many. */
@@ -26,19 +27,6 @@ static void run_again(void *context, unsigned long rounds)
     for (unsigned long i = 0; i < rounds; i++)
         runner->run(runner->width, runner->vectors, EDONR_PLACES * (size_t)runner->width,
                     runner->sheet, runner->sheet_len);
-}
-
-/* Products on either side, at changing places among the first so many. */
-static size_t make_products_over(size_t places, uint8_t *sheet, size_t commands)
-{
-    for (size_t i = 0; i < commands; i++) {
-        uint8_t *command = sheet + PRODUCT_BYTES * i;
-        size_t d = i % places, round = i / places;
-        command[0] = (uint8_t)(1 + i % 2);
-        command[1] = (uint8_t)d;
-        command[2] = (uint8_t)((d + 1 + round % (places - 1)) % places);
-    }
-    return PRODUCT_BYTES * commands;
 }
 
 static size_t make_products(uint8_t *sheet, size_t commands)

@@ -162,6 +162,7 @@ uint64_t edonr_digest(uint32_t size, const uint8_t *message, size_t message_len,
 #define EDONR_REFUSED_CUT_COMMAND 9 /* the sheet ends inside a command */
 #define EDONR_REFUSED_PLACE 10      /* a place is above EDONR_PLACES - 1 (7) */
 #define EDONR_REFUSED_SAME_PLACE 11 /* d equals s */
+#define EDONR_REFUSED_START 14      /* a slice starts neither at a command nor at the end */
 
 /*
  * Does a sheet's commands in order.
@@ -201,6 +202,57 @@ uint64_t edonr_run_forward(uint32_t width, uint8_t *vectors, size_t vectors_len,
  */
 uint64_t edonr_run_backward(uint32_t width, uint8_t *vectors, size_t vectors_len,
                             const uint8_t *sheet, size_t sheet_len);
+
+/*
+ * Does a slice of a sheet: some of its commands in order, from an offset on, so that a
+ * forward run can be stopped behind any command and taken up again.
+ *
+ * It does exactly budget commands, or those that remain to the end of the sheet if these
+ * are fewer. Swaps and flips use the budget too. It reaches the offset of the first command
+ * that is not done, or sheet_len if none remains. A budget of 0 moves nothing and reaches
+ * its own start, and so does any budget from sheet_len on.
+ *
+ * Slices of one sheet at one width, from offset 0 to sheet_len, each from the offset that
+ * the one before reached and over the vectors that it left, leave what edonr_run_forward
+ * leaves, and their units sum up to what it returns, however the budgets are chosen.
+ * edonr_run_backward of the sheet is then the way home.
+ *
+ * Each slice checks the whole sheet before it moves anything, so that a short slice of a
+ * long sheet takes little more time than that check. Of a full sheet of products, a slice
+ * of one command takes about 100 times the command itself, all slices of 16 commands
+ * together about 7 times the whole run, and all slices of 256 about 1.4 times.
+ *
+ * Reads    vectors, EDONR_PLACES * w bytes, and sheet, sheet_len bytes; an empty sheet is
+ *          fine. offset is where in the sheet the slice starts.
+ * Writes   on success vectors, all EDONR_PLACES * w bytes: V0 to V7 after the last command
+ *          of the slice.
+ * Returns  2^16 times the units of the commands done, plus the offset reached.
+ *          edonr_slice_units tells the one, 0 to 1,365, and edonr_slice_offset the other,
+ *          0 to 4,096.
+ * Refuses  in this order:
+ *          5 to 11                 what edonr_run_forward refuses, with the same answers:
+ *                                  the first faulty command of the whole sheet decides,
+ *                                  whatever offset and budget are;
+ *         14 EDONR_REFUSED_START   offset is neither that of the first byte of a command
+ *                                  nor sheet_len.
+ */
+uint64_t edonr_run_slice(uint32_t width, uint8_t *vectors, size_t vectors_len,
+                         const uint8_t *sheet, size_t sheet_len, uint32_t offset,
+                         uint16_t budget);
+
+/* The next two are for answers of edonr_run_slice that are a success. */
+
+/* The offset that a slice reached, where the next one starts. */
+static inline uint32_t edonr_slice_offset(uint64_t answer)
+{
+    return (uint32_t)(answer & 0xFFFFu);
+}
+
+/* The units of the commands that a slice did. */
+static inline uint32_t edonr_slice_units(uint64_t answer)
+{
+    return (uint32_t)(answer >> 16);
+}
 
 /*
  * Writes the inverse sheet of a sheet, the one that goes home: the undoing commands, last

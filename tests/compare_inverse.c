@@ -58,16 +58,6 @@ static void check_sheet(uint32_t width, const uint8_t *sheet, size_t sheet_len)
           sheet_len);
 }
 
-/* Mostly the width that a sheet was made for, else the other one, else one that is none. */
-static uint32_t random_width(uint32_t width)
-{
-    switch (random_below(12)) {
-    case 0: return 96 - width;
-    case 1: return width ^ 1u << random_below(32);
-    default: return width;
-    }
-}
-
 static void compare_random(uint32_t width)
 {
     static struct sheet sheet;

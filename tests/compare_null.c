@@ -1,6 +1,6 @@
 /*
- * A null pointer with length 0, at every slice argument of every call, alone and together
- * with others, against the reference.
+ * A null pointer with length 0, at every buffer of every call, alone and together with
+ * others, against the reference.
  */
 #include <stddef.h>
 
@@ -13,6 +13,7 @@
 #include "harness/product_call.h"
 #include "harness/random.h"
 #include "harness/run_call.h"
+#include "harness/slice_call.h"
 #include "harness/step_call.h"
 #include "reference/answer.h"
 #include "reference/division.h"
@@ -21,9 +22,9 @@ static const uint32_t widths[] = {32, 64, 0, 33};
 static const uint32_t sizes[] = {224, 256, 384, 512, 0, 225};
 static uint8_t bytes[512];
 
-/* The slices of a call by a number's bits: a bit that is set makes its slice empty, and an
-   empty slice is lent as a null pointer. */
-static size_t slice_len(unsigned number, unsigned bit, size_t len)
+/* The buffers of a call by a number's bits: a bit that is set makes its buffer empty, and
+   an empty buffer is lent as a null pointer. */
+static size_t buffer_len(unsigned number, unsigned bit, size_t len)
 {
     return number >> bit & 1 ? 0 : len;
 }
@@ -34,9 +35,9 @@ static void compare_products(void)
     check_group("product and divisions");
     for (unsigned n = 0; n < 4 * OPERATIONS * 8; n++) {
         uint32_t width = widths[n % 4];
-        size_t first_len = slice_len(n / 4 / OPERATIONS, 0, width);
-        size_t second_len = slice_len(n / 4 / OPERATIONS, 1, width);
-        size_t out_len = slice_len(n / 4 / OPERATIONS, 2, 64);
+        size_t first_len = buffer_len(n / 4 / OPERATIONS, 0, width);
+        size_t second_len = buffer_len(n / 4 / OPERATIONS, 1, width);
+        size_t out_len = buffer_len(n / 4 / OPERATIONS, 2, 64);
         struct product_call call = {&operations[n / 4 % OPERATIONS],
                                     width,
                                     bytes,
@@ -52,8 +53,8 @@ static void compare_digests(void)
 {
     check_group("digest");
     for (unsigned n = 0; n < 6 * 4; n++) {
-        size_t message_len = slice_len(n / 6, 0, 100);
-        check_digest_call(sizes[n % 6], bytes, message_len, slice_len(n / 6, 1, 64));
+        size_t message_len = buffer_len(n / 6, 0, 100);
+        check_digest_call(sizes[n % 6], bytes, message_len, buffer_len(n / 6, 1, 64));
     }
 }
 
@@ -67,11 +68,26 @@ static void compare_runs(void)
     for (unsigned n = 0; n < 4 * DIRECTIONS * 4; n++) {
         uint32_t width = widths[n % 4];
         size_t vectors_len =
-            slice_len(n / 4 / DIRECTIONS, 0, width == 64 ? VECTORS_64 : VECTORS_32);
-        size_t sheet_len = slice_len(n / 4 / DIRECTIONS, 1, sizeof flips);
+            buffer_len(n / 4 / DIRECTIONS, 0, width == 64 ? VECTORS_64 : VECTORS_32);
+        size_t sheet_len = buffer_len(n / 4 / DIRECTIONS, 1, sizeof flips);
         struct run run = {(enum direction)(n / 4 % DIRECTIONS), width, flips, sheet_len};
         random_fill(vectors, sizeof vectors);
         check_run_call(&run, vectors, vectors_len);
+    }
+}
+
+/* The same of a slice, which without a sheet starts at offset 0 alone. */
+static void compare_slices(void)
+{
+    uint8_t vectors[VECTORS_64];
+    check_group("slices");
+    for (unsigned n = 0; n < 4 * 4 * 6; n++) {
+        uint32_t width = widths[n % 4];
+        size_t vectors_len = buffer_len(n / 4, 0, width == 64 ? VECTORS_64 : VECTORS_32);
+        struct slice slice = {width, flips, buffer_len(n / 4, 1, sizeof flips),
+                              n / 16 % 3 * 2, (uint16_t)(n / 48 * 2)};
+        random_fill(vectors, sizeof vectors);
+        check_slice_call(&slice, vectors, vectors_len);
     }
 }
 
@@ -80,8 +96,8 @@ static void compare_inverse_sheets(void)
 {
     check_group("inverse sheets");
     for (unsigned n = 0; n < 4 * 4; n++)
-        check_inverse_sheet_call(widths[n % 4], flips, slice_len(n / 4, 0, sizeof flips),
-                                 slice_len(n / 4, 1, 64), NULL);
+        check_inverse_sheet_call(widths[n % 4], flips, buffer_len(n / 4, 0, sizeof flips),
+                                 buffer_len(n / 4, 1, 64), NULL);
 }
 
 /* A step without pipe or without block is refused. */
@@ -93,9 +109,9 @@ static void compare_steps(void)
         uint32_t width = widths[n % 4];
         size_t len = width == 64 ? PIPE_64 : PIPE_32;
         struct step step = {(enum direction)(n / 4 % DIRECTIONS), width, bytes,
-                            slice_len(n / 4 / DIRECTIONS, 1, len)};
+                            buffer_len(n / 4 / DIRECTIONS, 1, len)};
         random_fill(pipe, sizeof pipe);
-        check_step_call(&step, pipe, slice_len(n / 4 / DIRECTIONS, 0, len));
+        check_step_call(&step, pipe, buffer_len(n / 4 / DIRECTIONS, 0, len));
     }
 }
 
@@ -143,17 +159,31 @@ static void check_points(void)
         check(step(32, pipe, PIPE_32, NULL, 0) == REFUSED(6), "a step without block");
         check(step(33, NULL, 0, NULL, 0) == REFUSED(5), "a step with neither");
     }
-    check(edonr_inverse_sheet(32, NULL, 0, out, 64) == 0, "an inverse sheet of no sheet");
-    check(edonr_inverse_sheet(64, NULL, 0, NULL, 0) == 0, "neither sheet nor output");
-    check(edonr_inverse_sheet(32, flips, 4, NULL, 0) == REFUSED(4),
-          "an inverse sheet without output");
-    check(edonr_inverse_sheet(33, NULL, 0, NULL, 0) == REFUSED(5), "neither, at no width");
     check(edonr_narrow_open(&narrow, 256) == 0 && edonr_wide_open(&wide, 512) == 0,
           "openings");
     check(edonr_narrow_feed(&narrow, NULL, 0) == 0, "narrow, fed nothing");
     check(edonr_wide_feed(&wide, NULL, 0) == 0, "wide, fed nothing");
     check(edonr_narrow_finish(&narrow, NULL, 0) == REFUSED(4), "narrow, no output");
     check(edonr_wide_finish(&wide, NULL, 0) == REFUSED(4), "wide, no output");
+}
+
+static void check_sheet_points(void)
+{
+    uint8_t vectors[VECTORS_32] = {0}, out[64];
+    check_group("answers of slices and of inverse sheets as numbers");
+    check(edonr_run_slice(32, NULL, 0, flips, 4, 0, 1) == REFUSED(6),
+          "a slice without vectors");
+    check(edonr_run_slice(32, vectors, VECTORS_32, NULL, 0, 0, 9) == 0,
+          "a slice without a sheet");
+    check(edonr_run_slice(32, vectors, VECTORS_32, NULL, 0, 1, 0) == REFUSED(14),
+          "a slice without a sheet, from 1");
+    check(edonr_run_slice(33, NULL, 0, NULL, 0, 1, 1) == REFUSED(5),
+          "a slice with neither");
+    check(edonr_inverse_sheet(32, NULL, 0, out, 64) == 0, "an inverse sheet of no sheet");
+    check(edonr_inverse_sheet(64, NULL, 0, NULL, 0) == 0, "neither sheet nor output");
+    check(edonr_inverse_sheet(32, flips, 4, NULL, 0) == REFUSED(4),
+          "an inverse sheet without output");
+    check(edonr_inverse_sheet(33, NULL, 0, NULL, 0) == REFUSED(5), "neither, at no width");
 }
 
 int main(int argc, char **argv)
@@ -165,10 +195,12 @@ int main(int argc, char **argv)
     compare_products();
     compare_digests();
     compare_runs();
+    compare_slices();
     compare_inverse_sheets();
     compare_steps();
     for (enum kind kind = NARROW; kind < KINDS; kind++)
         compare_pieces(kind);
     check_points();
+    check_sheet_points();
     return check_finish();
 }

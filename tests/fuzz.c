@@ -1,5 +1,5 @@
 /*
- * fuzz [rounds]: all fifteen calls with random arguments, sound, nearly sound and
+ * fuzz [rounds]: all sixteen calls with random arguments, sound, nearly sound and
  * nonsense, each compared with the reference. The number of rounds is fixed, so that two
  * runs from one seed are the same.
  */
@@ -17,12 +17,13 @@
 #include "harness/random.h"
 #include "harness/run_call.h"
 #include "harness/sheet_maker.h"
+#include "harness/slice_call.h"
 #include "harness/step_call.h"
 #include "reference/answer.h"
 #include "reference/digest.h"
 #include "reference/division.h"
 
-enum { DEFAULT_ROUNDS = 1000000, MOST_MESSAGE = 1 << 16, MOST_OUT = 200, CALLS = 15 };
+enum { DEFAULT_ROUNDS = 1000000, MOST_MESSAGE = 1 << 16, MOST_OUT = 200, CALLS = 16 };
 
 static uint8_t bytes[MOST_MESSAGE];
 
@@ -103,6 +104,7 @@ static void fuzz_sheet(uint32_t width, struct sheet *sheet)
     if (kind == 0) {
         random_pattern(sheet->bytes, len);
         sheet->len = len;
+        sheet->count = 0;
         return;
     }
     make_sheet(width == 32 || width == 64 ? width : 32, len == 1 ? 0 : len, sheet);
@@ -110,20 +112,44 @@ static void fuzz_sheet(uint32_t width, struct sheet *sheet)
         damage_sheet(sheet);
 }
 
+/* The vectors of a run. Half of them is a length that a caller might think enough. */
+static size_t fuzz_vectors(uint32_t width, uint8_t vectors[RUN_CALL_VECTORS])
+{
+    uint64_t places = random_below(32) == 0 ? EDONR_PLACES / 2 : EDONR_PLACES;
+    size_t len = (size_t)fuzz_number(places * width);
+    random_pattern(vectors, len <= RUN_CALL_VECTORS ? len : 0);
+    return len;
+}
+
 static bool fuzz_run(enum direction direction)
 {
     static struct sheet sheet;
     uint8_t vectors[RUN_CALL_VECTORS];
     uint32_t width = fuzz_width();
-    /* Half of the vectors is a length that a caller might think enough. */
-    uint64_t places = random_below(32) == 0 ? EDONR_PLACES / 2 : EDONR_PLACES;
-    size_t vectors_len = (size_t)fuzz_number(places * width);
+    size_t vectors_len = fuzz_vectors(width, vectors);
     fuzz_sheet(width, &sheet);
-    random_pattern(vectors, vectors_len <= sizeof vectors ? vectors_len : 0);
     struct run run = {direction, width, sheet.bytes, sheet.len};
     if (random_below(64) == 0)
         run.sheet_len = (size_t)fuzz_claim();
     return is_refusal(check_run_call(&run, vectors, vectors_len));
+}
+
+/* Mostly from where a command of the sheet begins as made, or from its end. */
+static bool fuzz_slice(void)
+{
+    static struct sheet sheet;
+    uint8_t vectors[RUN_CALL_VECTORS];
+    uint32_t width = fuzz_width();
+    size_t vectors_len = fuzz_vectors(width, vectors);
+    fuzz_sheet(width, &sheet);
+    size_t number = (size_t)random_below(sheet.count + 1);
+    size_t start = number < sheet.count ? sheet.offsets[number] : sheet.len;
+    uint64_t commands = random_below(sheet.count - number + 2);
+    struct slice slice = {width, sheet.bytes, sheet.len, (uint32_t)fuzz_number(start), 0};
+    slice.budget = (uint16_t)fuzz_number(commands);
+    if (random_below(64) == 0)
+        slice.sheet_len = (size_t)fuzz_claim();
+    return is_refusal(check_slice_call(&slice, vectors, vectors_len));
 }
 
 static bool fuzz_inverse_sheet(void)
@@ -204,7 +230,8 @@ static bool fuzz_call(unsigned call)
     case 11: return fuzz_finish(kind);
     case 12: return fuzz_step(FORWARD);
     case 13: return fuzz_step(BACKWARD);
-    default: return fuzz_inverse_sheet();
+    case 14: return fuzz_inverse_sheet();
+    default: return fuzz_slice();
     }
 }
 
@@ -214,14 +241,14 @@ int main(int argc, char **argv)
         "product",        "left division", "right division", "digest",
         "forward run",    "backward run",  "narrow opening", "wide opening",
         "narrow feeding", "wide feeding",  "narrow finish",  "wide finish",
-        "forward step",   "backward step", "inverse sheet",
+        "forward step",   "backward step", "inverse sheet",  "slice",
     };
     unsigned long calls[CALLS] = {0}, refused[CALLS] = {0};
     int argument = check_program("fuzz", argc, argv);
     unsigned long rounds =
         argument < argc ? strtoul(argv[argument], NULL, 10) : DEFAULT_ROUNDS;
     reference_init();
-    check_group("fifteen calls with random arguments");
+    check_group("sixteen calls with random arguments");
     for (unsigned long round = 0; round < rounds; round++) {
         unsigned call = (unsigned)random_below(CALLS);
         calls[call]++;

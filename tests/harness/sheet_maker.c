@@ -139,6 +139,15 @@ void damage_sheet(struct sheet *sheet)
     }
 }
 
+uint32_t random_width(uint32_t width)
+{
+    switch (random_below(12)) {
+    case 0: return 96 - width;
+    case 1: return width ^ 1u << random_below(32);
+    default: return width;
+    }
+}
+
 void each_cut_command(uint32_t width, sheet_visitor *visit)
 {
     uint8_t command[2 + 64 + 1];

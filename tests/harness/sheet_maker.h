@@ -36,6 +36,9 @@ size_t random_counted_len(size_t count);
 /* One random damage; some damages leave another sheet that is accepted. */
 void damage_sheet(struct sheet *sheet);
 
+/* Mostly the width that a sheet was made for, else the other one, else one that is none. */
+uint32_t random_width(uint32_t width);
+
 /* What is done with a sheet. */
 typedef void sheet_visitor(uint32_t width, const uint8_t *sheet, size_t sheet_len);
 

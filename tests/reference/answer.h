@@ -20,7 +20,8 @@ enum refusal {
     BAD_COMMAND = 8,
     CUT_COMMAND = 9,
     BAD_PLACE = 10,
-    SAME_PLACE = 11
+    SAME_PLACE = 11,
+    BAD_START = 14
 };
 
 /* The most bytes of one message. */

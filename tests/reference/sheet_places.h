@@ -18,10 +18,10 @@ enum code { LMUL = 1, RMUL, LDIV, RDIV, SWAP, FLIP, KMUL, KDIV };
 /* The shortest command, a flip, takes two bytes. */
 enum { MOST_BYTES = 4096, MOST_COMMANDS = MOST_BYTES / 2 };
 
-/* Where each command of an accepted sheet begins. */
+/* Where each command of an accepted sheet begins, and behind them the sheet's length. */
 struct offsets {
-    size_t at[MOST_COMMANDS];
-    size_t count;
+    size_t at[MOST_COMMANDS + 1];
+    size_t count; /* of the commands */
 };
 
 static bool has_two_places(uint8_t code)
@@ -66,6 +66,7 @@ static uint64_t check_sheet(uint32_t width, const uint8_t *sheet, size_t sheet_l
         offsets->at[offsets->count++] = at;
         at += (size_t)len;
     }
+    offsets->at[offsets->count] = sheet_len;
     return 0;
 }
 
@@ -98,6 +99,14 @@ static enum code undoing(enum code code)
 #include "sheet_width.h"
 #undef WIDTH
 
+/* Commands of an accepted sheet that begin at these offsets, count of them. */
+static uint64_t run_commands(enum direction direction, uint32_t width, uint8_t *vectors,
+                             const uint8_t *sheet, const size_t *at, size_t count)
+{
+    return width == 32 ? run_32(direction, vectors, sheet, at, count)
+                       : run_64(direction, vectors, sheet, at, count);
+}
+
 static uint64_t run(enum direction direction, uint32_t width, uint8_t *vectors,
                     size_t vectors_len, const uint8_t *sheet, size_t sheet_len)
 {
@@ -105,6 +114,5 @@ static uint64_t run(enum direction direction, uint32_t width, uint8_t *vectors,
     uint64_t refusal = check_run(width, vectors_len, sheet, sheet_len, &offsets);
     if (is_refusal(refusal))
         return refusal;
-    return width == 32 ? run_32(direction, vectors, sheet, &offsets)
-                       : run_64(direction, vectors, sheet, &offsets);
+    return run_commands(direction, width, vectors, sheet, offsets.at, offsets.count);
 }

@@ -64,16 +64,17 @@ static void AT_WIDTH(store_vectors)(WORD vectors[PLACES][8], uint8_t *bytes)
         AT_WIDTH(store_vector)(vectors[i], bytes + i * WIDTH);
 }
 
-/* In order, or undoing from the last command to the first. Returns the units of it all. */
+/* The commands at these offsets in order, or undoing from the last one to the first.
+   Returns the units of it all. */
 static uint64_t AT_WIDTH(run)(enum direction direction, uint8_t *bytes,
-                              const uint8_t *sheet, const struct offsets *offsets)
+                              const uint8_t *sheet, const size_t *at, size_t count)
 {
     WORD vectors[PLACES][8];
     uint64_t units = 0;
     AT_WIDTH(load_vectors)(bytes, vectors);
-    for (size_t done = 0; done < offsets->count; done++) {
-        size_t number = direction == FORWARD ? done : offsets->count - 1 - done;
-        const uint8_t *command = sheet + offsets->at[number];
+    for (size_t done = 0; done < count; done++) {
+        size_t number = direction == FORWARD ? done : count - 1 - done;
+        const uint8_t *command = sheet + at[number];
         enum code code = (enum code)command[0];
         units += AT_WIDTH(do_command)(direction == FORWARD ? code : undoing(code), vectors,
                                       command);

@@ -1,7 +1,7 @@
 /*
  * Wrong archives: each call passes on to the archive's own, but for what the chosen mutant
  * does wrong. To be compiled with -DMUTANT=name, a name of the list below, and linked with
- * --wrap of all fifteen calls, so that the comparisons meet it in the archive's place.
+ * --wrap of all sixteen calls, so that the comparisons meet it in the archive's place.
  */
 #include <stdbool.h>
 #include <string.h>
@@ -39,6 +39,46 @@ enum mutant {
     run_leaves_upper_places,
     run_of_lower_places_writes_v7,
     sheet_length_by_32_bits,
+    slice_always_refused,
+    slice_idles,
+    slice_of_2048_idles,
+    slice_from_2048_idles,
+    slice_moves_by_first,
+    slice_from_the_front,
+    slice_undoes,
+    slice_leaves_upper_places,
+    slice_swaps_use_no_budget,
+    slice_flips_use_no_budget,
+    slice_of_one_more,
+    slice_of_one_less,
+    slice_of_0_does_all,
+    slice_budget_by_8_bits,
+    slice_budget_signed,
+    slice_units_of_all,
+    slice_units_so_far,
+    slice_counts_swaps,
+    slice_counts_flips,
+    slice_reaches_its_start,
+    slice_reaches_last,
+    slice_reached_by_11_bits,
+    slice_answer_exchanged,
+    slice_start_before_faults,
+    slice_start_before_lengths,
+    slice_starts_inside,
+    slice_starts_behind,
+    slice_end_refused,
+    slice_start_told,
+    slice_offset_by_16_bits,
+    slice_checks_as_it_runs,
+    slice_checks_from_start,
+    slice_fault_from_start,
+    slice_refused_writes,
+    slice_faulty_writes,
+    slice_changes_sheet,
+    slice_writes_behind,
+    slice_length_by_32_bits,
+    slice_vectors_by_32_bits,
+    slice_without_pointer,
     inverse_always_refused,
     inverse_idles,
     inverse_of_2048_idles,
@@ -295,6 +335,213 @@ RUN(WRAP(run_forward))
 RUN(WRAP(run_backward))
 {
     return run(REAL(run_backward), true, width, vectors, vectors_len, sheet, sheet_len);
+}
+
+/* ---------------- slices ---------------- */
+
+#define SLICE(name)                                                                        \
+    uint64_t name(uint32_t width, uint8_t *vectors, size_t vectors_len,                    \
+                  const uint8_t *sheet, size_t sheet_len, uint32_t offset,                 \
+                  uint16_t budget)
+
+SLICE(REAL(run_slice));
+
+struct slice {
+    uint32_t width;
+    uint8_t *vectors;
+    size_t vectors_len;
+    const uint8_t *sheet;
+    size_t sheet_len;
+    uint32_t offset;
+    uint16_t budget;
+};
+
+static uint64_t do_slice(struct slice s)
+{
+    return REAL(run_slice)(s.width, s.vectors, s.vectors_len, s.sheet, s.sheet_len,
+                           s.offset, s.budget);
+}
+
+/* What a slice would answer, with nothing done. */
+static uint64_t answer_of_slice(struct slice s)
+{
+    uint8_t unused[EDONR_PLACES * 64] = {0};
+    s.vectors = unused;
+    return do_slice(s);
+}
+
+/* Where the command begins that a byte of a sound sheet belongs to. */
+static uint32_t command_of(uint32_t width, const uint8_t *sheet, size_t offset)
+{
+    size_t at = 0;
+    while (at + command_len(width, sheet[at]) <= offset)
+        at += command_len(width, sheet[at]);
+    return (uint32_t)at;
+}
+
+/* Whether a command of a sound sheet begins at an offset, or the sheet ends there. */
+static bool is_start(uint32_t width, const uint8_t *sheet, size_t sheet_len, size_t offset)
+{
+    size_t at = 0;
+    while (at < sheet_len && at < offset)
+        at += command_len(width, sheet[at]);
+    return at == offset;
+}
+
+/* For a slice that is refused with 14. */
+static uint64_t other_start_refusal(struct slice s, uint64_t answer)
+{
+    if (IS(slice_refused_writes))
+        s.vectors[0] ^= 1;
+    if (IS(slice_start_told))
+        return edonr_refused(EDONR_REFUSED_START, s.offset);
+    if (IS(slice_starts_behind) && s.offset > s.sheet_len)
+        return s.sheet_len;
+    if (IS(slice_starts_inside) && s.offset < s.sheet_len) {
+        s.offset = command_of(s.width, s.sheet, s.offset);
+        return do_slice(s);
+    }
+    return answer;
+}
+
+/* For a slice of a sheet that is sound up to a fault. */
+static uint64_t other_fault_refusal(struct slice s, uint64_t answer)
+{
+    size_t fault = edonr_offset(answer);
+    bool starts = is_start(s.width, s.sheet, fault, s.offset);
+    struct slice front = s, back = s;
+    front.sheet_len = fault;
+    if (IS(slice_faulty_writes))
+        REAL(run_forward)(s.width, s.vectors, s.vectors_len, s.sheet, fault);
+    if (IS(slice_start_before_faults) && !starts)
+        return edonr_refused(EDONR_REFUSED_START, 0);
+    if (IS(slice_fault_from_start) && s.offset <= fault)
+        return answer - s.offset;
+    if (IS(slice_checks_as_it_runs) && starts &&
+        count_commands(s.width, s.sheet + s.offset, fault - s.offset, 0) >= s.budget)
+        return do_slice(front);
+    if (IS(slice_checks_from_start) && s.offset > fault && s.offset <= s.sheet_len) {
+        back.sheet += s.offset;
+        back.sheet_len -= s.offset;
+        back.offset = 0;
+        uint64_t of_back = do_slice(back);
+        return succeeds(of_back) ? of_back + s.offset : answer;
+    }
+    return answer;
+}
+
+static uint64_t other_slice_refusal(struct slice s, uint64_t answer)
+{
+    if (edonr_refusal(answer) == EDONR_REFUSED_START)
+        return other_start_refusal(s, answer);
+    if (edonr_refusal(answer) >= EDONR_REFUSED_COMMAND)
+        return other_fault_refusal(s, answer);
+    if (IS(slice_start_before_lengths) && s.offset > s.sheet_len)
+        return edonr_refused(EDONR_REFUSED_START, 0);
+    return answer;
+}
+
+/* The number of commands that a slice does, if those of one code use no budget. */
+static uint16_t count_without(const struct slice *s, uint8_t code)
+{
+    uint16_t count = 0, left = s->budget;
+    for (size_t at = s->offset; at < s->sheet_len && left > 0; count++) {
+        left = (uint16_t)(left - (s->sheet[at] != code));
+        at += command_len(s->width, s->sheet[at]);
+    }
+    return count;
+}
+
+static uint16_t other_budget(const struct slice *s)
+{
+    if (IS(slice_swaps_use_no_budget))
+        return count_without(s, 5);
+    if (IS(slice_flips_use_no_budget))
+        return count_without(s, 6);
+    if (IS(slice_of_one_more) && s->budget < UINT16_MAX)
+        return s->budget + 1;
+    if (IS(slice_of_one_less) && s->budget > 0)
+        return s->budget - 1;
+    if (IS(slice_of_0_does_all) && s->budget == 0)
+        return UINT16_MAX;
+    if (IS(slice_budget_by_8_bits))
+        return s->budget & 0xFF;
+    if (IS(slice_budget_signed) && s->budget > INT16_MAX)
+        return 0;
+    return s->budget;
+}
+
+/* A slice that is not refused, up to the offset that it reaches. */
+static void move_slice(struct slice s, size_t reached)
+{
+    uint8_t kept[EDONR_PLACES * 64];
+    const uint8_t *part = s.sheet + s.offset;
+    size_t part_len = reached - s.offset, half = s.vectors_len / 2;
+    uint64_t commands = count_commands(s.width, part, part_len, 0);
+    if (IS(slice_idles) || (IS(slice_of_2048_idles) && commands == 2048) ||
+        (IS(slice_from_2048_idles) && s.offset >= 2048))
+        return;
+    if (IS(slice_undoes)) {
+        REAL(run_backward)(s.width, s.vectors, s.vectors_len, part, part_len);
+        return;
+    }
+    if (IS(slice_moves_by_first) && s.budget > 1)
+        s.budget = 1;
+    if (IS(slice_from_the_front))
+        s.offset = 0;
+    memcpy(kept, s.vectors, s.vectors_len);
+    do_slice(s);
+    if (IS(slice_leaves_upper_places))
+        memcpy(s.vectors + half, kept + half, half);
+}
+
+/* What is answered for a slice that is done. */
+static uint64_t other_slice_answer(const struct slice *s, uint64_t answer)
+{
+    uint64_t units = edonr_slice_units(answer), reached = edonr_slice_offset(answer);
+    const uint8_t *part = s->sheet + s->offset;
+    size_t part_len = (size_t)reached - s->offset;
+    if (IS(slice_counts_swaps))
+        units += count_commands(s->width, part, part_len, 5);
+    if (IS(slice_counts_flips))
+        units += count_commands(s->width, part, part_len, 6);
+    if (IS(slice_units_of_all) || IS(slice_units_so_far))
+        units = answer_of(REAL(run_forward), s->width, s->vectors_len, s->sheet,
+                          IS(slice_units_of_all) ? s->sheet_len : (size_t)reached);
+    if (IS(slice_reaches_its_start))
+        reached = s->offset;
+    if (IS(slice_reaches_last) && part_len > 0)
+        reached = command_of(s->width, s->sheet, (size_t)reached - 1);
+    if (IS(slice_reached_by_11_bits))
+        reached &= 0x7FF;
+    return IS(slice_answer_exchanged) ? (reached << 16) + units : (units << 16) + reached;
+}
+
+SLICE(WRAP(run_slice))
+{
+    struct slice s = {width, vectors, vectors_len, sheet, sheet_len, offset, budget};
+    if (IS(slice_vectors_by_32_bits))
+        s.vectors_len = (uint32_t)vectors_len;
+    if (IS(slice_length_by_32_bits))
+        s.sheet_len = (uint32_t)sheet_len;
+    if (IS(slice_offset_by_16_bits))
+        s.offset = (uint16_t)offset;
+    if (IS(slice_without_pointer) && sheet == NULL)
+        return edonr_refused(EDONR_REFUSED_SHEET, 0);
+    uint64_t answer = answer_of_slice(s);
+    if (!succeeds(answer))
+        return other_slice_refusal(s, answer);
+    if (IS(slice_always_refused) || (IS(slice_end_refused) && offset == sheet_len))
+        return edonr_refused(EDONR_REFUSED_START, 0);
+    s.budget = other_budget(&s);
+    answer = answer_of_slice(s);
+    move_slice(s, edonr_slice_offset(answer));
+    answer = other_slice_answer(&s, answer);
+    if (IS(slice_writes_behind))
+        vectors[vectors_len] ^= 1;
+    if (IS(slice_changes_sheet) && sheet_len > 0)
+        ((uint8_t *)sheet)[sheet_len - 1] ^= 1;
+    return answer;
 }
 
 /* ---------------- inverse sheets ---------------- */

@@ -54,6 +54,14 @@ uint64_t edonr_run_backward(uint32_t width, uint8_t *vectors, size_t vectors_len
     return reference_run_backward(width, vectors, vectors_len, sheet, sheet_len);
 }
 
+uint64_t edonr_run_slice(uint32_t width, uint8_t *vectors, size_t vectors_len,
+                         const uint8_t *sheet, size_t sheet_len, uint32_t offset,
+                         uint16_t budget)
+{
+    return reference_run_slice(width, vectors, vectors_len, sheet, sheet_len, offset,
+                               budget);
+}
+
 uint64_t edonr_inverse_sheet(uint32_t width, const uint8_t *sheet, size_t sheet_len,
                              uint8_t *out, size_t out_len)
 {

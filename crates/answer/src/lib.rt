@@ -4,7 +4,7 @@ ghost use Prim.Native.Nat.{_<_};
 ghost use Rattle.answer.specs.Number.{refusalNumber, numberOf, markedNumber};
 ghost use Rattle.answer.specs.Refuse.{isDone};
 
-// Why a call is refused. `specs/Number.antt` gives document 01's number for each.
+// Why a call is refused. `specs/Number.antt` gives the number of document 01 or 02 for each.
 pub enum Refusal {
     Size,
     State,
@@ -17,6 +17,7 @@ pub enum Refusal {
     Truncated,
     Place,
     SamePlace,
+    Start,
 }
 
 // The offset of a refusal is that of the first byte of the first faulty command of a sheet, and 0 for a refusal that has no place.
@@ -28,7 +29,7 @@ pub enum Answer {
 // Bit 63: no call has a success as large.
 const MARK: u64 = 9223372036854775808;
 
-// Document 01's number of a refusal.
+// The number of a refusal.
 pub fn refusal_number(r: Refusal) -> u64
     ensures { λ n. ⌜ n ≡ refusalNumber r ⌝ }
     ensures { λ n. ⌜ n < 256 ⌝ }
@@ -45,6 +46,7 @@ pub fn refusal_number(r: Refusal) -> u64
         Refusal::Truncated => 9,
         Refusal::Place => 10,
         Refusal::SamePlace => 11,
+        Refusal::Start => 14,
     }
 }
 

@@ -11,6 +11,8 @@ ghost use Rattle.digest.specs.State.{openAnswer, opened, finishAnswer, finishOu
 ghost use Rattle.digest.specs.OneCall.{oneCallAnswer, oneCallOut};
 ghost use Rattle.invertible.specs.RoundTrip.{Forward, Backward};
 ghost use Rattle.sheet.specs.Run.{runAnswer, runBytes};
+ghost use Rattle.slice.specs.Slice.{sliceAnswer, sliceBytes};
+ghost use Rattle.slice.specs.Number.{sliceNumber};
 ghost use Rattle.inverse.specs.Inverse.{inverseAnswer, inverseOut};
 ghost use Rattle.pipe.specs.Call.{stepAnswer, stepBytes};
 ghost use Rattle.narrow.specs.Outcomes.{narrowOf, hashOf as ofNarrow, fed as fedNarrow};
@@ -70,6 +72,21 @@ pub extern "C" fn edonr_run_backward(width: u32, vectors: &mut [u8], sheet: &[u8
     ensures { λ _. ⌜ now (vectors .exit) ≡ runBytes Backward width (now (sheet .entry)) (now (vectors .entry)) ⌝ }
 {
     answer::number(run::run_backward(width, vectors, sheet))
+}
+
+// A forward run of the sheet from `offset` on, of at most `budget` commands.
+#[no_mangle]
+pub extern "C" fn edonr_run_slice(
+    width: u32,
+    vectors: &mut [u8],
+    sheet: &[u8],
+    offset: u32,
+    budget: u16,
+) -> u64
+    ensures { λ r. ⌜ r ≡ sliceNumber (sliceAnswer budget width (now (sheet .entry)) offset (now (vectors .entry))) ⌝ }
+    ensures { λ _. ⌜ now (vectors .exit) ≡ sliceBytes budget width (now (sheet .entry)) offset (now (vectors .entry)) ⌝ }
+{
+    slice::number(slicer::run_slice(width, vectors, sheet, offset, budget))
 }
 
 // The inverse of the sheet, into the first bytes of `out`, as many as the sheet has.

@@ -1,24 +1,13 @@
 // Runs of a load sheet over lent vectors, forward and backward.
 ghost use mathlib.Core.Path.{_≡_};
 ghost use mathlib.Core.Bool.{true};
-ghost use Prim.Native.Nat.{_*_};
-ghost use lib.Dec.{eqb};
 ghost use Rattle.quasigroup.specs.Tables.{knownWidth};
-ghost use Rattle.sheet.specs.Read.{placeCount};
 ghost use Rattle.invertible.specs.RoundTrip.{Forward, Backward};
 ghost use Rattle.sheet.specs.Run.{runAnswer, runBytes};
 use answer::Answer;
 use answer::Refusal;
 use sheet::MOST;
-use sheet::PLACES;
 use sheet::Summary;
-
-// Whether `n` bytes are those of the vectors.
-fn vectors_fit(width: u32, n: usize) -> bool
-    ensures { λ r. ⌜ r ≡ eqb n (placeCount * width) ⌝ }
-{
-    n == PLACES * (width as usize)
-}
 
 // A forward run at a width of document 01's.
 fn forward_at(width: u32, vectors: &mut [u8], sheet: &[u8]) -> Answer
@@ -26,7 +15,7 @@ fn forward_at(width: u32, vectors: &mut [u8], sheet: &[u8]) -> Answer
     ensures { λ r. ⌜ r ≡ runAnswer width (now (sheet .entry)) (now (vectors .entry)) ⌝ }
     ensures { λ r. ⌜ now (vectors .exit) ≡ runBytes Forward width (now (sheet .entry)) (now (vectors .entry)) ⌝ }
 {
-    if !vectors_fit(width, vectors.len()) {
+    if !precheck::vectors_fit(width, vectors.len()) {
         return Answer::Refused(Refusal::Operand, 0);
     }
     let mut none = [0u16; 0];
@@ -45,7 +34,7 @@ fn backward_at(width: u32, vectors: &mut [u8], sheet: &[u8]) -> Answer
     ensures { λ r. ⌜ r ≡ runAnswer width (now (sheet .entry)) (now (vectors .entry)) ⌝ }
     ensures { λ r. ⌜ now (vectors .exit) ≡ runBytes Backward width (now (sheet .entry)) (now (vectors .entry)) ⌝ }
 {
-    if !vectors_fit(width, vectors.len()) {
+    if !precheck::vectors_fit(width, vectors.len()) {
         return Answer::Refused(Refusal::Operand, 0);
     }
     let mut offsets = [0u16; MOST];

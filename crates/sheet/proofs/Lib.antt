@@ -7,6 +7,8 @@ pub mod Checked
 pub mod Enough
 pub mod Lent
 pub mod Undoing
+pub mod Progress
+pub mod Start
 pub mod Counting
 pub mod RoundTrip
 pub mod Compatible

@@ -70,10 +70,10 @@ module _ (g : Direction) (w : ℕ) (s : List ℕ) (hs : Bytes s) (b : List ℕ) 
   run-bytes = outcome-holds Bytes length answerBy (new g) (new (other g)) b run-cases hb new-bytes
 
   -- the same run in the other direction
-  same-answer : runAnswer w s (runBytes g w s b) ≡ runAnswer w s b
+  pub same-answer : runAnswer w s (runBytes g w s b) ≡ runAnswer w s b
   same-answer = outcome-answer Bytes length answerBy (new g) (new (other g)) b run-cases new-length
 
-  there-and-back : runBytes (other g) w s (runBytes g w s b) ≡ b
+  pub there-and-back : runBytes (other g) w s (runBytes g w s b) ≡ b
   there-and-back = outcome-back Bytes length answerBy (new g) (new (other g)) b run-cases new-length new-back
 
 -- ---- a list of runs

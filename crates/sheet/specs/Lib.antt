@@ -6,6 +6,8 @@ pub mod Effect
 pub mod Work
 pub mod SheetAnswer
 pub mod Run
+pub mod Progress
+pub mod Start
 pub mod Counting
 pub mod RoundTrip
 pub mod Compatible

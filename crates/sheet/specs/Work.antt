@@ -3,6 +3,8 @@
 use mathlib.Core.List.{List, map, sum}
 use Prim.Native.Nat.{ℕ, _+_}
 use lib.ListN.{length}
+use Rattle.answer.specs.declared.Answer.{Answer}
+use Rattle.answer.specs.declared.Answer.the-variants.{Done, Refused}
 use Rattle.sheet.specs.declared.Read.{Read}
 use Rattle.sheet.specs.declared.Read.the-variants.{Got, Fault, End}
 use Rattle.sheet.specs.declared.Summary.{Summary}
@@ -39,3 +41,8 @@ summed w s l (Sheet.Faulty r i) = Faulty r i
 
 abbrev pub summary : ℕ → List ℕ → Plan → Summary
 summary w s p = summed w s (p .offsets) (p .outcome)
+
+-- .. as an answer: the units, or the first fault
+abbrev pub foundAnswer : Summary → Answer
+foundAnswer (Whole n t) = Done t
+foundAnswer (Faulty r i) = Refused r i

@@ -3,8 +3,8 @@ use Prim.Native.Nat.{ℕ}
 use native.Mathlib.Omega.{arith}
 use borrow.Author.Needs.{needs}
 use lib.Dec.{eqb}
-use Rattle.run.proofs.vectors_fit.Statement.{statement}
-use Rattle.run.proofs.vectors_fit.Tie as tie
+use Rattle.precheck.proofs.vectors_fit.Statement.{statement}
+use Rattle.precheck.proofs.vectors_fit.Tie as tie
 
 returns : tie.Need-returns
 returns c = ap (λ (m : ℕ). eqb (c .args .n) m) (omega arith)

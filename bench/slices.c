@@ -1,0 +1,121 @@
+#include <stdint.h>
+#include <stdio.h>
+
+#include "../tests/harness/random.h"
+#include "../tests/harness/rng.h"
+#include "../tests/harness/run_call.h"
+#include "../tests/harness/sheet_maker.h"
+#include "../tests/reference/sheet.h"
+#include "bench.h"
+#include "edonr.h"
+#include "product_sheet.h"
+
+typedef uint64_t slice_function(uint32_t width, uint8_t *vectors, size_t vectors_len,
+                                const uint8_t *sheet, size_t sheet_len, uint32_t offset,
+                                uint16_t budget);
+
+enum { ARCHIVE, REFERENCE, SIDES };
+
+static slice_function *const slices[SIDES] = {edonr_run_slice, reference_run_slice};
+static run_function *const runs[SIDES] = {edonr_run_forward, reference_run_forward};
+
+/* The ways through a sheet: the whole run, and chains of slices of these budgets. */
+enum { WHOLE, OF_1, OF_16, OF_256, WAYS };
+
+static const uint16_t budgets[WAYS] = {[OF_1] = 1, [OF_16] = 16, [OF_256] = 256};
+
+struct runner {
+    unsigned side;
+    uint32_t width;
+    const struct sheet *sheet;
+    uint16_t budget;
+    uint8_t vectors[VECTORS_64];
+};
+
+/* Each run starts from the vectors that the one before left, and so does each chain. */
+static void run_whole(void *context, unsigned long rounds)
+{
+    struct runner *runner = context;
+    for (unsigned long i = 0; i < rounds; i++)
+        runs[runner->side](runner->width, runner->vectors,
+                           EDONR_PLACES * (size_t)runner->width, runner->sheet->bytes,
+                           runner->sheet->len);
+}
+
+static void run_chain(void *context, unsigned long rounds)
+{
+    struct runner *runner = context;
+    const struct sheet *sheet = runner->sheet;
+    size_t vectors_len = EDONR_PLACES * (size_t)runner->width;
+    for (unsigned long i = 0; i < rounds; i++)
+        for (uint32_t offset = 0; offset < sheet->len;)
+            offset = edonr_slice_offset(
+                slices[runner->side](runner->width, runner->vectors, vectors_len,
+                                     sheet->bytes, sheet->len, offset, runner->budget));
+}
+
+static struct work way_work(struct runner *runner, unsigned side, unsigned way,
+                            uint32_t width, const struct sheet *sheet)
+{
+    struct rng rng = {7};
+    runner->side = side;
+    runner->width = width;
+    runner->sheet = sheet;
+    runner->budget = budgets[way];
+    rng_fill(&rng, runner->vectors, sizeof runner->vectors);
+    return (struct work){way == WHOLE ? run_whole : run_chain, runner, 1, 0};
+}
+
+/* Seconds for a sheet, by side and by way, all of them measured in turn. */
+static void measure(uint32_t width, const struct sheet *sheet, double seconds[SIDES][WAYS])
+{
+    struct runner runners[SIDES * WAYS];
+    struct work works[SIDES * WAYS];
+    for (unsigned i = 0; i < SIDES * WAYS; i++)
+        works[i] = way_work(&runners[i], i / WAYS, i % WAYS, width, sheet);
+    bench_measure(works, SIDES * WAYS);
+    for (unsigned i = 0; i < SIDES * WAYS; i++)
+        seconds[i / WAYS][i % WAYS] = works[i].seconds;
+}
+
+/* Chains by the time of the whole run, and a slice of one command by that of a product. */
+static void print_chains(uint32_t width, const char *kind, const struct sheet *sheet,
+                         const double seconds[WAYS], double product)
+{
+    double slice = seconds[OF_1] / (double)sheet->count;
+    printf("  width %u  %5zu %-14s", (unsigned)width, sheet->count, kind);
+    for (unsigned way = OF_1; way < WAYS; way++)
+        printf("  %6.2f", seconds[way] / seconds[WHOLE]);
+    printf("  %7.1f ns  %8.1f", slice * 1e9, slice / product);
+}
+
+static void bench_width(uint32_t width)
+{
+    static struct sheet sheet;
+    double seconds[SIDES][WAYS];
+    sheet.count = SHEET_MOST_BYTES / PRODUCT_BYTES;
+    sheet.len = make_products_over(EDONR_PLACES, sheet.bytes, sheet.count);
+    measure(width, &sheet, seconds);
+    double product = seconds[ARCHIVE][WHOLE] / (double)sheet.count;
+    print_chains(width, "products", &sheet, seconds[ARCHIVE], product);
+    for (unsigned way = WHOLE; way < WAYS; way++)
+        printf("  %6.2f", seconds[ARCHIVE][way] / seconds[REFERENCE][way]);
+    random_seed(7);
+    make_sheet(width, SHEET_MOST_BYTES, &sheet);
+    measure(width, &sheet, seconds);
+    printf("\n");
+    print_chains(width, "mixed commands", &sheet, seconds[ARCHIVE], product);
+    printf("\n");
+}
+
+void bench_slices(void)
+{
+    printf("   full sheets by slices of 1, of 16 and of 256 commands: time ratios\n");
+    printf("%-33s  to the whole run          one slice of 1        archive to reference\n",
+           "");
+    printf("%-33s    of 1   of 16  of 256        time  products   whole    of 1   of 16  "
+           "of 256\n",
+           "");
+    bench_width(32);
+    bench_width(64);
+}

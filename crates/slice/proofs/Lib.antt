@@ -1,0 +1,4 @@
+pub mod Tests
+pub mod Injective
+pub mod Exact
+pub mod Chain
