@@ -1,5 +1,6 @@
 #include <stdint.h>
 #include <stdio.h>
+#include <stdlib.h>
 
 #include "../tests/harness/random.h"
 #include "../tests/harness/rng.h"
@@ -42,16 +43,22 @@ static void run_whole(void *context, unsigned long rounds)
                            runner->sheet->len);
 }
 
+/* No slice of these sheets is refused; one that were would start over for ever. */
 static void run_chain(void *context, unsigned long rounds)
 {
     struct runner *runner = context;
     const struct sheet *sheet = runner->sheet;
     size_t vectors_len = EDONR_PLACES * (size_t)runner->width;
-    for (unsigned long i = 0; i < rounds; i++)
-        for (uint32_t offset = 0; offset < sheet->len;)
-            offset = edonr_slice_offset(
+    for (unsigned long i = 0; i < rounds; i++) {
+        for (uint32_t offset = 0; offset < sheet->len;) {
+            uint64_t answer =
                 slices[runner->side](runner->width, runner->vectors, vectors_len,
-                                     sheet->bytes, sheet->len, offset, runner->budget));
+                                     sheet->bytes, sheet->len, offset, runner->budget);
+            if (edonr_refusal(answer) != 0)
+                abort();
+            offset = edonr_slice_offset(answer);
+        }
+    }
 }
 
 static struct work way_work(struct runner *runner, unsigned side, unsigned way,
@@ -78,44 +85,49 @@ static void measure(uint32_t width, const struct sheet *sheet, double seconds[SI
         seconds[i / WAYS][i % WAYS] = works[i].seconds;
 }
 
-/* Chains by the time of the whole run, and a slice of one command by that of a product. */
+/* Chains by the time of the whole run, and the mean of one slice of each budget. */
 static void print_chains(uint32_t width, const char *kind, const struct sheet *sheet,
-                         const double seconds[WAYS], double product)
+                         double seconds[SIDES][WAYS])
 {
-    double slice = seconds[OF_1] / (double)sheet->count;
     printf("  width %u  %5zu %-14s", (unsigned)width, sheet->count, kind);
     for (unsigned way = OF_1; way < WAYS; way++)
-        printf("  %6.2f", seconds[way] / seconds[WHOLE]);
-    printf("  %7.1f ns  %8.1f", slice * 1e9, slice / product);
+        printf("  %6.2f", seconds[ARCHIVE][way] / seconds[ARCHIVE][WHOLE]);
+    for (unsigned way = OF_1; way < WAYS; way++) {
+        size_t chain = (sheet->count + budgets[way] - 1) / budgets[way];
+        printf("  %6.0f", seconds[ARCHIVE][way] / (double)chain * 1e9);
+    }
+    for (unsigned way = WHOLE; way < WAYS; way++)
+        printf("  %6.2f", seconds[ARCHIVE][way] / seconds[REFERENCE][way]);
+    printf("\n");
+}
+
+static void bench_sheet(uint32_t width, const char *kind, const struct sheet *sheet)
+{
+    double seconds[SIDES][WAYS];
+    measure(width, sheet, seconds);
+    print_chains(width, kind, sheet, seconds);
 }
 
 static void bench_width(uint32_t width)
 {
     static struct sheet sheet;
-    double seconds[SIDES][WAYS];
     sheet.count = SHEET_MOST_BYTES / PRODUCT_BYTES;
     sheet.len = make_products_over(EDONR_PLACES, sheet.bytes, sheet.count);
-    measure(width, &sheet, seconds);
-    double product = seconds[ARCHIVE][WHOLE] / (double)sheet.count;
-    print_chains(width, "products", &sheet, seconds[ARCHIVE], product);
-    for (unsigned way = WHOLE; way < WAYS; way++)
-        printf("  %6.2f", seconds[ARCHIVE][way] / seconds[REFERENCE][way]);
+    bench_sheet(width, "products", &sheet);
     random_seed(7);
     make_sheet(width, SHEET_MOST_BYTES, &sheet);
-    measure(width, &sheet, seconds);
-    printf("\n");
-    print_chains(width, "mixed commands", &sheet, seconds[ARCHIVE], product);
-    printf("\n");
+    bench_sheet(width, "mixed commands", &sheet);
+    make_counted_sheet(width, SHEET_MOST_BYTES / 2, SHEET_MOST_BYTES, &sheet);
+    bench_sheet(width, "flips", &sheet);
 }
 
 void bench_slices(void)
 {
-    printf("   full sheets by slices of 1, of 16 and of 256 commands: time ratios\n");
-    printf("%-33s  to the whole run          one slice of 1        archive to reference\n",
-           "");
-    printf("%-33s    of 1   of 16  of 256        time  products   whole    of 1   of 16  "
-           "of 256\n",
-           "");
+    static const char columns[] = "    of 1   of 16  of 256";
+    printf("   full sheets by slices of 1, of 16 and of 256 commands\n");
+    printf("%-33s%-26s%-26s%s\n", "", "  time to the whole run", "  one slice, ns",
+           "  time ratio to the reference");
+    printf("%-33s%-26s%-24s   whole%s\n", "", columns, columns, columns);
     bench_width(32);
     bench_width(64);
 }

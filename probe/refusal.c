@@ -25,6 +25,8 @@ static const struct refusal refusals[] = {
      "the sheet ends inside a command"},
     {EDONR_REFUSED_PLACE, "EDONR_REFUSED_PLACE", "a place has no vector"},
     {EDONR_REFUSED_SAME_PLACE, "EDONR_REFUSED_SAME_PLACE", "d equals s"},
+    {EDONR_REFUSED_START, "EDONR_REFUSED_START",
+     "a slice starts neither at a command nor at the end"},
 };
 
 /* A faulty machine may answer with a number that the header does not know. */

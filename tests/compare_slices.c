@@ -199,7 +199,8 @@ static void compare_most(uint32_t width)
     }
 }
 
-/* Any offset of a short sheet, and a budget that may be its number of commands. */
+/* Any offset of a short sheet, and a budget that may be its number of commands; and the
+   first command alone. */
 static void check_short_sheet(uint32_t width, const uint8_t *sheet, size_t sheet_len)
 {
     struct slice slice = {width, sheet, sheet_len, (uint32_t)random_below(sheet_len + 2),
@@ -207,6 +208,8 @@ static void check_short_sheet(uint32_t width, const uint8_t *sheet, size_t sheet
     slice.budget = random_budget(2);
     check_slice(&slice, EDONR_PLACES * (size_t)width);
     slice.offset = 0;
+    check_slice(&slice, EDONR_PLACES * (size_t)width);
+    slice.budget = 1;
     check_slice(&slice, EDONR_PLACES * (size_t)width);
 }
 

@@ -18,6 +18,14 @@ pub either : (a b : Bool) (P : Type 0) → a || b ≡ true → (a ≡ true → P
 either true b P e f g = f refl
 either false b P e f g = g e
 
+pub or-left : (a b : Bool) → a ≡ true → a || b ≡ true
+or-left true b e = refl
+or-left false b e = absurd (false≢true e)
+
+pub or-right : (a b : Bool) → b ≡ true → a || b ≡ true
+or-right true b e = refl
+or-right false b e = e
+
 -- neither does
 pub neither : (a b : Bool) → a || b ≡ false → (a ≡ false) × (b ≡ false)
 neither true b e = absurd (true≢false e)

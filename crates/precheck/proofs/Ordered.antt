@@ -5,7 +5,7 @@ use Rattle.answer.specs.declared.Answer.{Answer}
 use Rattle.answer.specs.declared.Answer.the-variants.{Done, Refused}
 use Rattle.answer.specs.declared.Refusal.the-variants.{Start}
 use Rattle.answer.specs.Refuse.{unless, isDone}
-use Rattle.slice.specs.Slice.{thenStart}
+use Rattle.sheet.specs.Start.{thenStart}
 
 refused-first : (a : Answer) (t : Bool) → isDone a ≡ false → a ≡ thenStart t a
 refused-first (Done n) t e = absurd (true≢false e)
@@ -21,13 +21,13 @@ passes (Done n) true e h = refl
 passes (Done n) false e h = absurd (false≢true h)
 passes (Refused r at) t e h = absurd (false≢true e)
 
--- code found the sheet's answer `whole` and the start's answer `place`
-module _ {whole found place : Answer} (e : whole ≡ found) (t : Bool) (f : place ≡ unless t Start (Done 0)) where
+-- code found the sheet's answer `whole` and the offset's answer `offset`
+module _ {whole found offset : Answer} (e : whole ≡ found) (t : Bool) (f : offset ≡ unless t Start (Done 0)) where
   pub sheet-refused : isDone whole ≡ false → whole ≡ thenStart t found
   sheet-refused h = refused-first whole t h ∙ ap (thenStart t) e
 
-  pub start-refused : isDone whole ≡ true → isDone place ≡ false → place ≡ thenStart t found
+  pub start-refused : isDone whole ≡ true → isDone offset ≡ false → offset ≡ thenStart t found
   start-refused h k = f ∙ refused-then found t (ap isDone (sym e) ∙ h) (ap isDone (sym f) ∙ k)
 
-  pub neither-refused : isDone whole ≡ true → isDone place ≡ true → whole ≡ thenStart t found
+  pub neither-refused : isDone whole ≡ true → isDone offset ≡ true → whole ≡ thenStart t found
   neither-refused h k = e ∙ passes found t (ap isDone (sym e) ∙ h) (ap isDone (sym f) ∙ k)

@@ -9,8 +9,7 @@ ghost use Rattle.answer.specs.Refuse.{unless};
 ghost use Rattle.sheet.specs.Read.{placeCount};
 ghost use Rattle.sheet.specs.Sheet.{planOf};
 ghost use Rattle.sheet.specs.Work.{summary, foundAnswer};
-ghost use Rattle.sheet.specs.Start.{isStart};
-ghost use Rattle.slice.specs.Slice.{thenStart};
+ghost use Rattle.sheet.specs.Start.{isStart, thenStart};
 use answer::Answer;
 use answer::Refusal;
 use sheet::PLACES;
@@ -33,8 +32,8 @@ fn sheet_answer(found: Summary) -> Answer
     }
 }
 
-// What the test of a slice's start answers: `starts` tells whether a command starts there, and `size` is the sheet's.
-fn place_answer(starts: bool, start: usize, size: usize) -> Answer
+// What the test of a slice's starting offset answers: `starts` tells whether a command starts there, and `size` is the sheet's.
+fn offset_answer(starts: bool, start: usize, size: usize) -> Answer
     ensures { λ r. ⌜ r ≡ unless (starts || eqb start size) Start (Done 0) ⌝ }
 {
     if starts {
@@ -54,12 +53,12 @@ pub fn start_answer(width: u32, sheet: &[u8], start: usize) -> Answer
     let found = scanner::check_start(width, sheet, start, &mut none);
     let summary = found.summary;
     let whole = sheet_answer(summary);
-    let place = place_answer(found.starts, start, sheet.len());
+    let offset = offset_answer(found.starts, start, sheet.len());
     if !answer::is_done(whole) {
         return whole;
     }
-    if !answer::is_done(place) {
-        return place;
+    if !answer::is_done(offset) {
+        return offset;
     }
     whole
 }

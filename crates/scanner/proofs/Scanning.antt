@@ -1,6 +1,6 @@
 -- The check of a whole sheet, command by command: what is still to come, and what was passed.
 use mathlib.Core.Path.{_≡_, refl, sym, ap, _∙_}
-use mathlib.Core.Bool.{Bool, true, false, _||_}
+use mathlib.Core.Bool.{Bool, false, _||_, or-assoc, or-false}
 use mathlib.Core.List.{List}
 use Prim.Native.Nat.{ℕ, suc, _+_, _-_, _*_, _≤_, _<_}
 use native.Mathlib.Numerals.{add-one}
@@ -20,18 +20,6 @@ use Rattle.sheet.specs.Work.{totalUnits, summed, summary}
 use Rattle.sheet.specs.Sound.{SoundDecoded}
 use Rattle.sheet.proofs.Work.{units-none, units-more}
 use Rattle.sheet.proofs.Scan.{scan-got, scan-fault, scan-end}
-
-or-assoc : (a b c : Bool) → (a || b) || c ≡ a || (b || c)
-or-assoc true b c = refl
-or-assoc false b c = refl
-
-pub or-true : (a : Bool) → a || true ≡ true
-or-true true = refl
-or-true false = refl
-
-pub or-none : (a : Bool) → a || false ≡ a
-or-none true = refl
-or-none false = refl
 
 module _ (w : ℕ) (s : List ℕ) (x : ℕ) where
   -- n commands of t units are passed and i is reached, and m says whether the offset x was met: with what comes still, they are the whole sheet; l₀ is the
@@ -98,7 +86,7 @@ module _ (w : ℕ) (s : List ℕ) (x : ℕ) where
         let pos : 0 < length s - n = omega arith in
         let step : scanFrom (length s - n) w s i ≡ refused r i = scan-fault placeCount w s (length s - n) i r pos e in (
           ap (summed w s (scanFrom (length s) w s 0 .offsets)) (rw step at (now .outcome)),
-          (sym (or-none m) ∙ (rw step at (now .sought)), rw step at (now .stored)),
+          (sym (or-false m) ∙ (rw step at (now .sought)), rw step at (now .stored)),
         )
 
     pub ended : readAt w s i ≡ End
@@ -112,5 +100,5 @@ module _ (w : ℕ) (s : List ℕ) (x : ℕ) where
         let et : t ≡ totalUnits w s (scanFrom (length s) w s 0 .offsets) = omega arith in
         let o : _≡_ {A = Outcome} Plans.Sound (scanFrom (length s) w s 0 .outcome) = rw step at (now .outcome) in (
           ap (λ (a : ℕ). Whole a t) en ∙ ap (Whole (length (scanFrom (length s) w s 0 .offsets))) et ∙ ap (summed w s (scanFrom (length s) w s 0 .offsets)) o,
-          (sym (or-none m) ∙ (rw step at (now .sought)), rw step at (now .stored)),
+          (sym (or-false m) ∙ (rw step at (now .sought)), rw step at (now .stored)),
         )

@@ -44,16 +44,16 @@ module _ (w : ℕ) (s : List ℕ) where
 
   -- ---- as many as there are
 
-  abbrev Enough : ℕ → RunState → Type 0
-  Enough k p = stateAfter (min k (length (remaining w s (p .offset)))) w s p ≡ stateAfter k w s p
+  abbrev AsMany : ℕ → RunState → Type 0
+  AsMany k p = stateAfter (min k (length (remaining w s (p .offset)))) w s p ≡ stateAfter k w s p
 
   -- where no command stands
-  none-left : (k : ℕ) (p : RunState) → remaining w s (p .offset) ≡ [] → stateAfter (suc k) w s p ≡ stateAfter k w s p → Enough k p → Enough (suc k) p
+  none-left : (k : ℕ) (p : RunState) → remaining w s (p .offset) ≡ [] → stateAfter (suc k) w s p ≡ stateAfter k w s p → AsMany k p → AsMany (suc k) p
   none-left k p l stays h =
       let now : (n : ℕ) → min n (length (remaining w s (p .offset))) ≡ 0 = λ n. ap (λ (m : List ℕ). min n (length m)) l ∙ min-zero n in
       ap (λ (n : ℕ). stateAfter n w s p) (now (suc k) ∙ sym (now k)) ∙ h ∙ sym stays
 
-  as-many-with : (k : ℕ) (p : RunState) (r : Read) → readAt w s (p .offset) ≡ r → ((q : RunState) → Enough k q) → Enough (suc k) p
+  as-many-with : (k : ℕ) (p : RunState) (r : Read) → readAt w s (p .offset) ≡ r → ((q : RunState) → AsMany k q) → AsMany (suc k) p
   as-many-with k p (Got d) e h =
       let n = length (remaining w s (d .next)) in
       let m : min (suc k) (length (remaining w s (p .offset))) ≡ suc (min k n) =
@@ -96,11 +96,11 @@ module _ (w : ℕ) (s : List ℕ) where
 
   -- ---- what the commands do and count
 
-  pub record Done (k : ℕ) (p : RunState) : Type 0 where
+  pub record Performed (k : ℕ) (p : RunState) : Type 0 where
     pub vectors : stateAfter k w s p .vectors ≡ steps Forward w s (take k (remaining w s (p .offset))) (p .vectors)
     pub units : stateAfter k w s p .units ≡ p .units + totalUnits w s (take k (remaining w s (p .offset)))
 
-  none-done : (k : ℕ) (p : RunState) → remaining w s (p .offset) ≡ [] → stateAfter (suc k) w s p ≡ stateAfter k w s p → Done k p → Done (suc k) p
+  none-done : (k : ℕ) (p : RunState) → remaining w s (p .offset) ≡ [] → stateAfter (suc k) w s p ≡ stateAfter k w s p → Performed k p → Performed (suc k) p
   none-done k p l stays h =
       let o = p .offset in
       let same : take k (remaining w s o) ≡ take (suc k) (remaining w s o) = ap (take k) l ∙ take-nil k ∙ sym (ap (take (suc k)) l) in
@@ -109,7 +109,7 @@ module _ (w : ℕ) (s : List ℕ) where
         units = ap (λ (q : RunState). q .units) stays ∙ h .units ∙ ap (λ (l : List ℕ). p .units + totalUnits w s l) same;
       }
 
-  done-with : (k : ℕ) (p : RunState) (r : Read) → readAt w s (p .offset) ≡ r → ((q : RunState) → Done k q) → Done (suc k) p
+  done-with : (k : ℕ) (p : RunState) (r : Read) → readAt w s (p .offset) ≡ r → ((q : RunState) → Performed k q) → Performed (suc k) p
   done-with k p (Got d) e h =
       let q = advanced w s (Got d) p in
       let o = p .offset in
@@ -130,26 +130,26 @@ module _ (w : ℕ) (s : List ℕ) where
   done-with k p (Fault r) e h = none-done k p (remaining-fault (p .offset) r e) (after-read k p (Fault r) e) (h p)
   done-with k p End e h = none-done k p (remaining-end (p .offset) e) (after-read k p End e) (h p)
 
-  pub done : (k : ℕ) (p : RunState) → Done k p
+  pub done : (k : ℕ) (p : RunState) → Performed k p
   done zero p = record { vectors = refl; units = omega (arith, units-none placeCount w s) }
   done (suc k) p = done-with k p (readAt w s (p .offset)) refl (done k)
 
   -- ---- the offset that is reached in a sound sheet
 
-  abbrev Sound : ℕ → Type 0
-  Sound i = scanFrom (length s) w s i .outcome ≡ Plans.Sound
+  abbrev SoundFrom : ℕ → Type 0
+  SoundFrom i = scanFrom (length s) w s i .outcome ≡ Plans.Sound
 
-  sound-next : (i : ℕ) (d : Decoded) → readAt w s i ≡ Got d → Sound i → Sound (d .next)
+  sound-next : (i : ℕ) (d : Decoded) → readAt w s i ≡ Got d → SoundFrom i → SoundFrom (d .next)
   sound-next i d e h = sym (ap (λ (p : Plan). p .outcome) (rest-got placeCount w s i d e)) ∙ h
 
-  no-fault : (i : ℕ) (r : Refusal) → readAt w s i ≡ Fault r → Sound i → ⊥
+  no-fault : (i : ℕ) (r : Refusal) → readAt w s i ≡ Fault r → SoundFrom i → ⊥
   no-fault i r e h =
       let o : _≡_ {A = Outcome} (Plans.Faulty r i) Plans.Sound = sym (ap (λ (p : Plan). p .outcome) (rest-fault placeCount w s i r e)) ∙ h in
       let z : _≡_ {A = ℕ} 0 1 = cc in
       omega arith
 
   abbrev Reaches : ℕ → RunState → Type 0
-  Reaches k p = Sound (p .offset) → p .offset ≤ length s → stateAfter k w s p .offset ≡ getD (remaining w s (p .offset)) k (length s)
+  Reaches k p = SoundFrom (p .offset) → p .offset ≤ length s → stateAfter k w s p .offset ≡ getD (remaining w s (p .offset)) k (length s)
 
   here-with : (p : RunState) (r : Read) → readAt w s (p .offset) ≡ r → SoundRead placeCount w (length s) (p .offset) r → Reaches zero p
   here-with p (Got d) e h sound within = ap (λ (l : List ℕ). getD l zero (length s)) (sym (remaining-got (p .offset) d e))
@@ -170,7 +170,7 @@ module _ (w : ℕ) (s : List ℕ) where
       ap (λ (q : RunState). q .offset) (after-read k p End e) ∙ ih p sound within
       ∙ ap (λ (l : List ℕ). getD l k (length s)) l ∙ sym (ap (λ (l : List ℕ). getD l (suc k) (length s)) l)
 
-  pub reaches : (k : ℕ) (p : RunState) → Sound (p .offset) → p .offset ≤ length s → stateAfter k w s p .offset ≡ getD (remaining w s (p .offset)) k (length s)
+  pub reaches : (k : ℕ) (p : RunState) → SoundFrom (p .offset) → p .offset ≤ length s → stateAfter k w s p .offset ≡ getD (remaining w s (p .offset)) k (length s)
   reaches zero p = here-with p (readAt w s (p .offset)) refl (read-sound placeCount w s (p .offset))
   reaches (suc k) p = reaches-with k p (readAt w s (p .offset)) refl (read-sound placeCount w s (p .offset)) (reaches k)
 

@@ -27,11 +27,11 @@ advanced w s (Got d) p = runState (d .next) (p .units + d .units) (effect w s (d
 advanced w s (Fault r) p = p
 advanced w s End p = p
 
--- the state after k commands more of the sheet s, at width w
+-- the state after k commands more of the sheet s, at width w, or after those that come before its end or its first fault if they are fewer
 abbrev pub stateAfter : ℕ → ℕ → List ℕ → RunState → RunState
 stateAfter zero w s p = p
 stateAfter (suc k) w s p = stateAfter k w s (advanced w s (readAt w s (p .offset)) p)
 
--- the offsets of the commands that remain, from offset i on
+-- the offsets of the commands that remain, from offset i on up to the sheet's end or its first fault
 abbrev pub remaining : ℕ → List ℕ → ℕ → List ℕ
 remaining w s i = scanFrom (length s) w s i .offsets

@@ -5,7 +5,7 @@ use mathlib.Core.List.{List, []}
 use Prim.Native.Nat.{ℕ, _+_, min}
 use native.Mathlib.Nat.{zero-add, min-zero}
 use native.Mathlib.Omega.{arith}
-use lib.ListN.{length, length-take}
+use lib.ListN.{length}
 use Rattle.answer.specs.declared.Answer.{Answer}
 use Rattle.answer.specs.declared.Answer.the-variants.{Done, Refused}
 use Rattle.answer.specs.Refuse.{isDone, outcome}
@@ -34,7 +34,6 @@ slices-exact k w s i v sound start =
     let ran = done w s k (startingAt i v) in
     record {
       last = (from .before, from .offsets);
-      many = length-take k (remaining w s i);
       vectors = ap (λ (p : RunState). p .vectors) all ∙ ran .vectors;
       units = ap (λ (p : RunState). p .units) all ∙ ran .units ∙ zero-add _;
       offset = ap (λ (p : RunState). p .offset) all ∙ reaches w s k (startingAt i v) (from .outcome ∙ sound) (from .within);
@@ -74,12 +73,12 @@ stands-still =
 
 -- ---- two slices
 
-pub joined-after : (c w : ℕ) (s : List ℕ) (p : RunState) → joined p (sliced c w s (p .offset) (p .vectors)) ≡ stateAfter c w s p
-joined-after c w s p = ap (joined p) (sliced-after c w s (p .offset) (p .vectors)) ∙ sym (after-from w s c p)
+pub joined-after : (k w : ℕ) (s : List ℕ) (p : RunState) → joined p (sliced k w s (p .offset) (p .vectors)) ≡ stateAfter k w s p
+joined-after k w s p = ap (joined p) (sliced-after k w s (p .offset) (p .vectors)) ∙ sym (after-from w s k p)
 
 pub slices-compose : SlicesCompose
-slices-compose b c w s i v =
-    joined-after c w s (sliced b w s i v)
-    ∙ ap (stateAfter c w s) (sliced-after b w s i v)
-    ∙ after-after w s b c (startingAt i v)
-    ∙ sym (sliced-after (b + c) w s i v)
+slices-compose j k w s i v =
+    joined-after k w s (sliced j w s i v)
+    ∙ ap (stateAfter k w s) (sliced-after j w s i v)
+    ∙ after-after w s j k (startingAt i v)
+    ∙ sym (sliced-after (j + k) w s i v)

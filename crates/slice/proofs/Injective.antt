@@ -20,7 +20,7 @@ use Rattle.slice.specs.declared.SliceAnswer.{SliceAnswer}
 use Rattle.slice.specs.declared.SliceAnswer.the-variants.{Reached, Refused}
 use Rattle.slice.specs.Slice.{sliced, reachedBy}
 use Rattle.slice.specs.Number.{answerOf, sliceNumber}
-use Rattle.slice.specs.Injective.{isReached, SliceFits, SlicesFit, SliceNumbersInjective}
+use Rattle.slice.specs.Injective.{isReached, SliceFits, EverySliceFits, SliceNumbersInjective}
 use Rattle.slice.proofs.Tests.{SlicePassed, by-tests}
 
 -- ---- every answer fits
@@ -36,8 +36,8 @@ fits k w s i b p =
     let short = sound-short w s (q .sound) in
     (omega (arith, h .inside), omega (arith, h .inside, h .taken))
 
-pub slices-fit : SlicesFit
-slices-fit k w s i b =
+pub every-slice-fits : EverySliceFits
+every-slice-fits k w s i b =
     by-tests w s b i (λ a. SliceFits (reachedBy a (sliced k w s i (vectorsIn w b)))) (λ r at e. subst (Fits (2 ^ 32)) e (run-fits w s b)) (omega arith)
     (λ p n. fits k w s i b p)
 

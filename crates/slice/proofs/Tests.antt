@@ -3,6 +3,7 @@ use mathlib.Core.Path.{_≡_, refl, ap}
 use mathlib.Core.Bool.{Bool, true, false, false≢true}
 use mathlib.Core.List.{List}
 use Prim.Native.Nat.{ℕ, _*_}
+use native.Mathlib.Omega.{arith}
 use borrow.Author.Tests.{eqb-true}
 use lib.Dec.{eqb}
 use lib.ListN.{length}
@@ -15,9 +16,9 @@ use Rattle.quasigroup.specs.Tables.{knownWidth}
 use Rattle.sheet.specs.Read.{placeCount}
 use Rattle.sheet.specs.Sheet.{Sound, planOf}
 use Rattle.sheet.specs.Run.{runAnswer}
-use Rattle.sheet.specs.Start.{isStart}
+use Rattle.sheet.specs.Start.{isStart, thenStart}
 use Rattle.sheet.proofs.SheetAnswer.{done-passed}
-use Rattle.slice.specs.Slice.{thenStart, sliceTests}
+use Rattle.slice.specs.Slice.{sliceTests}
 
 -- what holds of each refusal under its condition, and of the run's success where there is a start, holds of the tests
 start-cases : (P : Answer → Type 0) (t : Bool) (a : Answer) → ((r : Refusal) (at : ℕ) → a ≡ Refused r at → P (Refused r at)) → P (Refused Start 0)
@@ -25,6 +26,12 @@ start-cases : (P : Answer → Type 0) (t : Bool) (a : Answer) → ((r : Refusal)
 start-cases P true (Done n) f g h = h n refl refl
 start-cases P false (Done n) f g h = g
 start-cases P t (Refused r at) f g h = f r at refl
+
+-- a success of the tests is the run's
+pub start-done : (t : Bool) (a : Answer) (n : ℕ) → thenStart t a ≡ Done n → a ≡ Done n
+start-done true (Done m) n e = e
+start-done false (Done m) n e = let z : _≡_ {A = ℕ} 0 1 = cc in absurd (omega arith)
+start-done t (Refused r at) n e = e
 
 -- what is known behind the tests of a run, and of a slice
 pub record RunPassed (w : ℕ) (s b : List ℕ) : Type 0 where

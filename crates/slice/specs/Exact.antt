@@ -2,7 +2,7 @@
 use mathlib.Core.Path.{_≡_}
 use mathlib.Core.Bool.{true}
 use mathlib.Core.List.{List, _++_}
-use Prim.Native.Nat.{ℕ, _+_, min}
+use Prim.Native.Nat.{ℕ, _+_}
 use lib.ListN.{length, getD, take}
 use Rattle.answer.specs.Refuse.{isDone}
 use Rattle.invertible.specs.RoundTrip.{Forward}
@@ -15,12 +15,11 @@ use Rattle.sheet.specs.Start.{isStart}
 use Rattle.slice.specs.declared.SliceAnswer.the-variants.{Reached}
 use Rattle.slice.specs.Slice.{sliced, sliceTests, sliceAnswer, sliceBytes}
 
--- From a start of a sheet that has no fault, with budget k. The commands that remain are the sheet's last ones. As many of them are done as the budget
--- has, or all if they are fewer: the vectors and the units are those of a run over these, and the offset reached is that of the command behind them, or the
--- sheet's length if there is none
+-- From a start of a sheet that has no fault, with budget k. The commands that remain are the sheet's last ones. The first k of them are done, or all if they
+-- are fewer: the vectors and the units are those of a run over these, and the offset reached is that of the command behind them, or the sheet's length if
+-- there is none
 pub record Exactly (k w : ℕ) (s : List ℕ) (i : ℕ) (v : List (List ℕ)) : Type 0 where
   pub last : (l : List ℕ) × (planOf w s .offsets ≡ l ++ remaining w s i)
-  pub many : length (take k (remaining w s i)) ≡ min k (length (remaining w s i))
   pub vectors : sliced k w s i v .vectors ≡ steps Forward w s (take k (remaining w s i)) v
   pub units : sliced k w s i v .units ≡ totalUnits w s (take k (remaining w s i))
   pub offset : sliced k w s i v .offset ≡ getD (remaining w s i) k (length s)
@@ -42,7 +41,7 @@ pub record StandsStill : Type 0 where
 abbrev pub joined : RunState → RunState → RunState
 joined p q = record { offset = q .offset; units = p .units + q .units; vectors = q .vectors }
 
--- b commands, and then c from the state that these reached, are b + c
+-- j commands, and then k from the state that these reached, are j + k
 abbrev pub SlicesCompose : Type 0
-SlicesCompose = (b c w : ℕ) (s : List ℕ) (i : ℕ) (v : List (List ℕ))
-    → joined (sliced b w s i v) (sliced c w s (sliced b w s i v .offset) (sliced b w s i v .vectors)) ≡ sliced (b + c) w s i v
+SlicesCompose = (j k w : ℕ) (s : List ℕ) (i : ℕ) (v : List (List ℕ))
+    → joined (sliced j w s i v) (sliced k w s (sliced j w s i v .offset) (sliced j w s i v .vectors)) ≡ sliced (j + k) w s i v

@@ -18,8 +18,9 @@ abbrev pub SliceFits : SliceAnswer → Type 0
 SliceFits (Reached offset units) = (offset ≤ 4096) × (units ≤ 1365)
 SliceFits (Refused r at) = at < 2 ^ 32
 
-abbrev pub SlicesFit : Type 0
-SlicesFit = (k w : ℕ) (s : List ℕ) (i : ℕ) (b : List ℕ) → SliceFits (sliceAnswer k w s i b)
+-- every answer of a slice is one of these
+abbrev pub EverySliceFits : Type 0
+EverySliceFits = (k w : ℕ) (s : List ℕ) (i : ℕ) (b : List ℕ) → SliceFits (sliceAnswer k w s i b)
 
 -- no two answers share a number; a comparison with 2^32 finds a refusal; and a success's number has its units above the 16 bits of its offset
 pub record SliceNumbersInjective : Type 0 where

@@ -1,15 +1,13 @@
 -- Document 02, Paper 5: a forward run that starts at an offset and does at most k commands, which the kit calls a slice.
-use mathlib.Core.Bool.{Bool}
 use mathlib.Core.List.{List}
 use Prim.Native.Nat.{ℕ, min}
 use lib.ListN.{length}
 use Rattle.answer.specs.declared.Answer.{Answer}
 use Rattle.answer.specs.declared.Answer.the-variants.{Done, Refused}
-use Rattle.answer.specs.declared.Refusal.the-variants.{Start}
-use Rattle.answer.specs.Refuse.{unless, outcome}
+use Rattle.answer.specs.Refuse.{outcome}
 use Rattle.sheet.specs.Run.{vectorsIn, vectorBytes, runAnswer}
 use Rattle.sheet.specs.Progress.{RunState, startingAt, stateAfter, remaining}
-use Rattle.sheet.specs.Start.{isStart}
+use Rattle.sheet.specs.Start.{isStart, thenStart}
 use Rattle.slice.specs.declared.SliceAnswer.{SliceAnswer}
 use Rattle.slice.specs.declared.SliceAnswer.the-variants as Slices
 use Rattle.slice.specs.declared.SliceAnswer.the-variants.{Reached}
@@ -18,12 +16,8 @@ use Rattle.slice.specs.declared.SliceAnswer.the-variants.{Reached}
 abbrev pub sliced : ℕ → ℕ → List ℕ → ℕ → List (List ℕ) → RunState
 sliced k w s i v = stateAfter (min k (length (remaining w s i))) w s (startingAt i v)
 
--- as a run refuses; then 14, the slice starts neither at a command nor at the sheet's end
-abbrev pub thenStart : Bool → Answer → Answer
-thenStart start (Done n) = unless start Start (Done n)
-thenStart start (Refused r at) = Refused r at
-
--- the tests of a slice at width w of the sheet s from offset i over the lent bytes b; where none refuses, the answer of the whole run stands here
+-- The tests of a slice at width w of the sheet s from offset i over the lent bytes b: as a run refuses; then 14, the slice starts neither at a command nor
+-- at the sheet's end. (A success has the units of the whole run here; `reachedBy` looks at nothing but that it is one.)
 abbrev pub sliceTests : ℕ → List ℕ → ℕ → List ℕ → Answer
 sliceTests w s i b = thenStart (isStart w s i) (runAnswer w s b)
 

@@ -1,6 +1,6 @@
 -- A slice's answer and the bytes after it, by the tests in their order.
 use mathlib.Core.Path.{_≡_, refl, ap, sym, subst, _∙_}
-use mathlib.Core.Bool.{Bool, true, false}
+use mathlib.Core.Bool.{true, false}
 use mathlib.Core.List.{List}
 use Prim.Native.Nat.{ℕ, _*_, _≤_}
 use native.Mathlib.Omega.{arith}
@@ -23,7 +23,7 @@ use Rattle.sheet.specs.SheetAnswer.{unlessSound, sheetAnswerAmong}
 use Rattle.sheet.specs.Work.{totalUnits, summed, summary, foundAnswer}
 use Rattle.sheet.specs.Run.{vectorsIn, vectorBytes, runAnswer}
 use Rattle.sheet.specs.Progress.{RunState, runState, startingAt, stateAfter}
-use Rattle.sheet.specs.Start.{isStart}
+use Rattle.sheet.specs.Start.{isStart, thenStart}
 use Rattle.sheet.proofs.Lent.{bytes-vectors}
 use Rattle.sheet.proofs.Checked.{sound-short}
 use Rattle.sheet.proofs.Counting.{runs-count}
@@ -32,19 +32,14 @@ use Rattle.sheet.proofs.Ran as Ran
 use Rattle.slice.specs.declared.SliceAnswer.{SliceAnswer}
 use Rattle.slice.specs.declared.SliceAnswer.the-variants as Slices
 use Rattle.slice.specs.declared.SliceAnswer.the-variants.{Reached}
-use Rattle.slice.specs.Slice.{sliced, thenStart, sliceTests, reachedBy, sliceAnswer, sliceBytes}
-use Rattle.slice.proofs.Tests.{SlicePassed, tests-passed}
+use Rattle.slice.specs.Slice.{sliced, sliceTests, reachedBy, sliceAnswer, sliceBytes}
+use Rattle.slice.proofs.Tests.{SlicePassed, tests-passed, start-done}
 use Rattle.slice.proofs.Exact.{sliced-after}
 use Rattle.slice.proofs.Injective.{fits}
 
 found-by : (w : ℕ) (s l : List ℕ) (o : Outcome) → foundAnswer (summed w s l o) ≡ unlessSound o (Done (totalUnits w s l))
 found-by w s l Plans.Sound = refl
 found-by w s l (Plans.Faulty r i) = refl
-
-start-done : (t : Bool) (a : Answer) (n : ℕ) → thenStart t a ≡ Done n → a ≡ Done n
-start-done true (Done m) n e = e
-start-done false (Done m) n e = let z : _≡_ {A = ℕ} 0 1 = cc in absurd (omega arith)
-start-done t (Refused r at) n e = e
 
 module _ (c w : ℕ) (s : List ℕ) (i : ℕ) (b : List ℕ) where
   abbrev Ends : SliceAnswer → List ℕ → Type 0
@@ -88,7 +83,8 @@ module _ (c w : ℕ) (s : List ℕ) (i : ℕ) (b : List ℕ) where
           there : runState o u (vectorsIn w last) ≡ sliced c w s i (vectorsIn w b)
           there = v ∙ sym (sliced-after c w s i (vectorsIn w b))
 
-          -- what was reached, and the start; the units, and those of the whole sheet
+          -- what was reached, and the start; the units, and those of the whole sheet: a program that tells the one for the other is refused for what it
+          -- tells, and not because that has too many bits
           pub offsets-fit : (o ≤ 4096) × (i ≤ 4096)
           offsets-fit =
               let short = sound-short w s (passed .run .sound) in (

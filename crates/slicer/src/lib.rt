@@ -7,7 +7,7 @@ use answer::Answer;
 use answer::Refusal;
 use slice::SliceAnswer;
 
-// A slice at a width of document 01's.
+// A slice at a width of document 01's. (The tests answer the units of the whole sheet, and the slice those of what it did.)
 fn slice_at(width: u32, vectors: &mut [u8], sheet: &[u8], start: usize, budget: u16) -> SliceAnswer
     requires { ⌜ knownWidth width ≡ true ⌝ }
     ensures { λ r. ⌜ r ≡ sliceAnswer budget width (now (sheet .entry)) start (now (vectors .entry)) ⌝ }

@@ -20,7 +20,7 @@ returns c =
     let k = g .before .before .before in
     let a = k .before .before .before .args in
     sheet-refused (g .before .sheet-answer .ensures ∙ ap foundAnswer (k .check-start .ensures .0)) (isStart (a .width) (now (a .sheet)) (a .start))
-    (g .place-answer .ensures ∙ ap (λ (b : Bool). unless (b || eqb (a .start) (length (now (a .sheet)))) Start (Done 0)) (k .check-start .ensures .1 .0))
+    (g .offset-answer .ensures ∙ ap (λ (b : Bool). unless (b || eqb (a .start) (length (now (a .sheet)))) Start (Done 0)) (k .check-start .ensures .1 .0))
     (stops (c .before .is-done .ensures) (c .if1 .taken))
 
 returns-2 : tie.Need-returns-2
@@ -30,7 +30,7 @@ returns-2 c =
     let k = g .before .before .before in
     let a = k .before .before .before .args in
     start-refused (g .before .sheet-answer .ensures ∙ ap foundAnswer (k .check-start .ensures .0)) (isStart (a .width) (now (a .sheet)) (a .start))
-    (g .place-answer .ensures ∙ ap (λ (b : Bool). unless (b || eqb (a .start) (length (now (a .sheet)))) Start (Done 0)) (k .check-start .ensures .1 .0))
+    (g .offset-answer .ensures ∙ ap (λ (b : Bool). unless (b || eqb (a .start) (length (now (a .sheet)))) Start (Done 0)) (k .check-start .ensures .1 .0))
     (goes-on (i .before .is-done .ensures) (i .if1 .left)) (stops (c .before .is-done2 .ensures) (c .if2 .taken))
 
 returns-3 : tie.Need-returns-3
@@ -40,7 +40,7 @@ returns-3 c =
     let k = g .before .before .before in
     let a = k .before .before .before .args in
     neither-refused (g .before .sheet-answer .ensures ∙ ap foundAnswer (k .check-start .ensures .0)) (isStart (a .width) (now (a .sheet)) (a .start))
-    (g .place-answer .ensures ∙ ap (λ (b : Bool). unless (b || eqb (a .start) (length (now (a .sheet)))) Start (Done 0)) (k .check-start .ensures .1 .0))
+    (g .offset-answer .ensures ∙ ap (λ (b : Bool). unless (b || eqb (a .start) (length (now (a .sheet)))) Start (Done 0)) (k .check-start .ensures .1 .0))
     (goes-on (i .before .is-done .ensures) (i .if1 .left)) (goes-on (c .before .is-done2 .ensures) (c .if2 .left))
 
 pub start-answer-spec : {M : Type 1} → statement M

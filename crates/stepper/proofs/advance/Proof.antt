@@ -14,6 +14,7 @@ use Rattle.stepper.proofs.Counting.{one-more, at-fault, at-end, none-le
 use Rattle.stepper.proofs.advance.Statement.{statement}
 use Rattle.stepper.proofs.advance.Tie as tie
 
+-- (`done` may be one above the budget here, so that a loop that does one command too many is refused for what it does)
 abbrev Inv-loop : tie.InvT-loop
 Inv-loop width sheet start budget vectors₀ at₀ units₀ done₀ most vectors at units done =
     (knownWidth width ≡ true) × (length vectors ≡ placeCount * width) × (length vectors ≡ length vectors₀) × (most ≤ 65535) × (done ≤ 65536) × (units ≤ done)
