@@ -40,7 +40,7 @@ linked (Refused r at) b c = record { offset = c .offset; units = c .units; bytes
 abbrev pub nextState : ℕ → List ℕ → ℕ → ChainState → ChainState
 nextState w s k c = linked (nextAnswer w s k c) (sliceBytes k w s (c .offset) (c .bytes)) c
 
--- the state after a slice for each of the budgets l, and what each of them answers
+-- the state after a slice for each of the budgets l, for none the start, and what each of them answers
 abbrev pub chain : ℕ → List ℕ → List ℕ → List ℕ → ChainState
 chain w s l b = stepped (nextState w s) l (chainStart b)
 
