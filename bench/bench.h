@@ -24,5 +24,6 @@ void bench_sheets(void);
 void bench_slices(void);
 void bench_inverse_sheets(void);
 void bench_blocks(void);
+void bench_shuffle(void);
 
 #endif

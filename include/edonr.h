@@ -9,9 +9,9 @@
  *   Each call returns one 64-bit number. Below 2^32 it is a success, and the number is
  *   what that call says it returns. Otherwise it is a refusal: 2^32 times the refusal
  *   number, plus an offset, which is 0 unless the call says otherwise.
- *   A call whose success can pass 2^32 marks its refusals, and says so: edonr_narrow_feed
- *   and edonr_wide_feed do. Below 2^63 their number is a success, and a refusal has bit 63
- *   set besides.
+ *   A call whose success can pass 2^32 marks its refusals, and says so: edonr_narrow_feed,
+ *   edonr_wide_feed, edonr_shuffle and edonr_unshuffle do. Below 2^63 their number is a
+ *   success, and a refusal has bit 63 set besides.
  *   A call refuses when, and only when, one of its conditions holds; conditions are tried
  *   in the order that the call lists them, and the first that holds decides. A refusal
  *   changes no byte of what is lent, and a success writes the bytes that the call names
@@ -436,6 +436,57 @@ uint64_t edonr_block_forward(uint32_t width, uint8_t *pipe, size_t pipe_len,
  */
 uint64_t edonr_block_backward(uint32_t width, uint8_t *pipe, size_t pipe_len,
                               const uint8_t *block, size_t block_len);
+
+/* ============================ F. Records ============================ */
+
+/*
+ * A record is V0 to V7 (C) as they stand after a command: EDONR_PLACES * w bytes (256 or
+ * 512), V0 first, that is 64 words of w/8 bytes each, lowest byte first. The words of a
+ * record are numbered 0 to 63 in this order. Records lie one behind the other.
+ *
+ * The byte shuffle lays records out for an archive: within each record the lowest byte of
+ * every word comes first, in word order, then the next byte of every word, up to the
+ * highest. Byte j of word i, byte 0 the lowest, stands
+ *
+ *   at i * (w/8) + j  in the plain record, and
+ *   at j * 64 + i     in the shuffled record.
+ *
+ * Each record is shuffled by itself, and a shuffled record has the length and the place of
+ * the plain one. So the records can be shuffled in one call, or in several that cut them
+ * anywhere between two records.
+ */
+
+#define EDONR_REFUSED_RECORDS 16 /* the records' length is no multiple of a record's */
+
+/*
+ * The byte shuffle of records.
+ *
+ * Reads    records, records_len bytes: any number of plain records; none is fine.
+ * Writes   on success the first records_len bytes of out: the shuffled records. Bytes
+ *          behind them stay.
+ * Returns  records_len. As that can pass 2^32, a refusal is marked: it is EDONR_MARK + 2^32
+ *          times its number, and edonr_marked_refusal tells it. No success reaches 2^63,
+ *          since no memory holds two buffers of that length.
+ * Refuses  in this order:
+ *          5 EDONR_REFUSED_WIDTH    width is neither 32 nor 64;
+ *         16 EDONR_REFUSED_RECORDS  records_len is no multiple of EDONR_PLACES * w;
+ *          4 EDONR_REFUSED_OUTPUT   out_len is under records_len.
+ */
+uint64_t edonr_shuffle(uint32_t width, const uint8_t *records, size_t records_len,
+                       uint8_t *out, size_t out_len);
+
+/*
+ * The way back: the plain records from shuffled ones, so that at one width edonr_shuffle
+ * and edonr_unshuffle, in either order, give the bytes back, whatever they are.
+ *
+ * Reads    records, records_len bytes: any number of shuffled records; none is fine.
+ * Writes   on success the first records_len bytes of out: the plain records. Bytes behind
+ *          them stay.
+ * Returns  records_len; a refusal is marked, as edonr_shuffle's.
+ * Refuses  what edonr_shuffle refuses, with the same answers.
+ */
+uint64_t edonr_unshuffle(uint32_t width, const uint8_t *records, size_t records_len,
+                         uint8_t *out, size_t out_len);
 
 #ifdef __cplusplus
 }

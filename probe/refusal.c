@@ -27,6 +27,7 @@ static const struct refusal refusals[] = {
     {EDONR_REFUSED_SAME_PLACE, "EDONR_REFUSED_SAME_PLACE", "d equals s"},
     {EDONR_REFUSED_START, "EDONR_REFUSED_START",
      "a slice starts neither at a command nor at the end"},
+    {EDONR_REFUSED_RECORDS, "EDONR_REFUSED_RECORDS", "the last record is not whole"},
 };
 
 /* A faulty machine may answer with a number that the header does not know. */

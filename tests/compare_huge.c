@@ -1,12 +1,12 @@
 /*
- * Messages past 2^29 and 2^32 bytes against the reference, in one call and in pieces, and
- * outputs of more than 2^32 bytes. At 2^29 bytes the length in bits passes 32 bits, at
- * 2^32 the length in bytes does.
+ * Messages past 2^29 and 2^32 bytes against the reference, in one call and in pieces,
+ * records of more than 2^32 bytes, and outputs of more than 2^32 bytes. At 2^29 bytes the
+ * length in bits passes 32 bits, at 2^32 the length in bytes does.
  *
  * The message is a megabyte of random bytes that is mapped again and again, so it takes
  * no more memory than that. The period is no power of two, and so a place in the message
  * that is cut off at 32 bits has other bytes. The reference hashes the message once a
- * size, and is finished at each mark.
+ * size, and is finished at each mark. The records are the front of the message.
  */
 #define _DEFAULT_SOURCE
 
@@ -25,6 +25,7 @@
 #include "harness/product_call.h"
 #include "harness/random.h"
 #include "harness/sheet_maker.h"
+#include "harness/shuffle_call.h"
 #include "reference/digest.h"
 #include "reference/division.h"
 #include "reference/hash.h"
@@ -36,6 +37,7 @@
 enum { MARKS = 5, PERIOD_PAGES = 257, MOST_OUT = 80, SEEN_OUT = 4096 };
 
 static uint64_t marks[MARKS];
+static size_t period;
 static const uint8_t *message;
 static struct lent out;
 
@@ -58,7 +60,7 @@ static void choose_marks(void)
 }
 
 /* A file of one period, that has no name. */
-static FILE *period_file(size_t period)
+static FILE *period_file(void)
 {
     uint8_t *bytes = malloc(period);
     FILE *file = tmpfile();
@@ -69,16 +71,16 @@ static FILE *period_file(size_t period)
     return file;
 }
 
-static const uint8_t *map_message(size_t len)
+/* So many bytes, or some more, of which each period is the same memory. */
+static uint8_t *map_periods(size_t len, int protection)
 {
-    size_t period = PERIOD_PAGES * (size_t)sysconf(_SC_PAGESIZE);
     size_t whole = (len + period - 1) / period * period;
-    FILE *file = period_file(period);
+    FILE *file = period_file();
     uint8_t *mapped =
         mmap(NULL, whole, PROT_NONE, MAP_PRIVATE | MAP_ANONYMOUS | MAP_NORESERVE, -1, 0);
     stop_unless(mapped != MAP_FAILED);
     for (size_t at = 0; at < whole; at += period)
-        stop_unless(mmap(mapped + at, period, PROT_READ, MAP_PRIVATE | MAP_FIXED,
+        stop_unless(mmap(mapped + at, period, protection, MAP_SHARED | MAP_FIXED,
                          fileno(file), 0) != MAP_FAILED);
     fclose(file);
     return mapped;
@@ -180,6 +182,15 @@ static void compare_inverse_sheet(uint32_t width)
     check_out("inverse sheet", width, got, want);
 }
 
+static void compare_shuffle(enum direction direction, uint32_t width)
+{
+    size_t len = prepare_out(), records_len = 2 * EDONR_PLACES * (size_t)width;
+    uint64_t want =
+        reference_shuffles[direction](width, message, records_len, want_out, len);
+    uint64_t got = archive_shuffles[direction](width, message, records_len, huge_out, len);
+    check_out(shuffle_names[direction], width, got, want);
+}
+
 static void compare_outputs(void)
 {
     check_group("outputs of over 2^32 bytes");
@@ -192,9 +203,63 @@ static void compare_outputs(void)
     }
     compare_inverse_sheet(32);
     compare_inverse_sheet(64);
+    for (enum direction d = FORWARD; d < DIRECTIONS; d++) {
+        compare_shuffle(d, 32);
+        compare_shuffle(d, 64);
+    }
     for (unsigned i = 0; i < 4; i++) {
         compare_digest(kind_sizes[i / 2][i % 2]);
         compare_finish((enum kind)(i / 2), kind_sizes[i / 2][i % 2]);
+    }
+}
+
+/* ---------------- records ---------------- */
+
+enum { TAIL = 1 << 17, RECORDS_OVER = 5, BEHIND = 100 };
+
+/* An output for records of 2^32 bytes and some more. All but its tail has the records' own
+   period, so that it takes little memory and what is written to one place is the same each
+   time. The tail begins before 2^32 bytes and is memory of its own, which nothing else
+   fills. */
+static uint8_t *map_records_out(size_t tail_at)
+{
+    uint8_t *mapped = map_periods(tail_at + TAIL, PROT_READ | PROT_WRITE);
+    stop_unless(mmap(mapped + tail_at, TAIL, PROT_READ | PROT_WRITE,
+                     MAP_PRIVATE | MAP_ANONYMOUS | MAP_FIXED, -1, 0) != MAP_FAILED);
+    return mapped;
+}
+
+/* Of the output a period at the front and the tail are looked at, with bytes behind. */
+static void compare_shuffled(enum direction direction, uint32_t width, uint8_t *records_out,
+                             size_t tail_at)
+{
+    static uint8_t tail[TAIL];
+    uint8_t *front = malloc(period);
+    size_t len = (size_t)AT_32 + RECORDS_OVER * EDONR_PLACES * (size_t)width;
+    stop_unless(front != NULL);
+    random_fill(records_out, period);
+    random_fill(tail, TAIL);
+    memcpy(records_out + tail_at, tail, TAIL);
+    reference_shuffles[direction](width, message, period, front, period);
+    reference_shuffles[direction](width, message + tail_at, len - tail_at, tail, TAIL);
+    uint64_t got =
+        archive_shuffles[direction](width, message, len, records_out, len + BEHIND);
+    check(got == len, "%s, width %" PRIu32 ": answered %" PRIx64, shuffle_names[direction],
+          width, got);
+    check(memcmp(records_out, front, period) == 0 &&
+              memcmp(records_out + tail_at, tail, TAIL) == 0,
+          "%s, width %" PRIu32 ": other bytes", shuffle_names[direction], width);
+    free(front);
+}
+
+static void compare_records(void)
+{
+    size_t tail_at = (size_t)AT_32 - TAIL / 2;
+    uint8_t *records_out = map_records_out(tail_at);
+    check_group("records of over 2^32 bytes");
+    for (enum direction d = FORWARD; d < DIRECTIONS; d++) {
+        compare_shuffled(d, 32, records_out, tail_at);
+        compare_shuffled(d, 64, records_out, tail_at);
     }
 }
 
@@ -203,9 +268,11 @@ int main(int argc, char **argv)
     check_program("compare_huge", argc, argv);
     reference_init();
     choose_marks();
-    message = map_message((size_t)marks[MARKS - 1]);
+    period = PERIOD_PAGES * (size_t)sysconf(_SC_PAGESIZE);
+    message = map_periods((size_t)marks[MARKS - 1], PROT_READ);
     out = lent_area(MOST_OUT, 1);
     compare_outputs();
+    compare_records();
     compare_size(WIDE, 512, 0);
     compare_size(WIDE, 384, MARKS - 2);
     compare_size(NARROW, 256, 0);

@@ -13,6 +13,7 @@
 #include "harness/product_call.h"
 #include "harness/random.h"
 #include "harness/run_call.h"
+#include "harness/shuffle_call.h"
 #include "harness/slice_call.h"
 #include "harness/step_call.h"
 #include "reference/answer.h"
@@ -115,6 +116,19 @@ static void compare_steps(void)
     }
 }
 
+/* Without records nothing is written, and no output is needed. */
+static void compare_shuffles(void)
+{
+    check_group("byte shuffles");
+    for (unsigned n = 0; n < 4 * DIRECTIONS * 4; n++) {
+        unsigned empty = n / 4 / DIRECTIONS;
+        struct shuffle call = {(enum direction)(n / 4 % DIRECTIONS), widths[n % 4], bytes,
+                               buffer_len(empty, 0, RECORD_64),
+                               buffer_len(empty, 1, RECORD_64)};
+        check_shuffle_call(&call, NULL);
+    }
+}
+
 /* From an opened state and from made-up ones, in form and not. */
 static void compare_pieces(enum kind kind)
 {
@@ -186,6 +200,22 @@ static void check_sheet_points(void)
     check(edonr_inverse_sheet(33, NULL, 0, NULL, 0) == REFUSED(5), "neither, at no width");
 }
 
+#define MARKED(number) (((uint64_t)1 << 63) + REFUSED(number))
+
+static void check_shuffle_points(void)
+{
+    uint8_t out[64];
+    check_group("answers of byte shuffles as numbers");
+    for (unsigned i = 0; i < DIRECTIONS; i++) {
+        shuffle_function *shuffle = archive_shuffles[i];
+        check(shuffle(32, NULL, 0, out, 64) == 0, "no records");
+        check(shuffle(64, NULL, 0, NULL, 0) == 0, "neither records nor output");
+        check(shuffle(32, bytes, RECORD_32, NULL, 0) == MARKED(4), "no output");
+        check(shuffle(64, bytes, 1, NULL, 0) == MARKED(16), "a byte and no output");
+        check(shuffle(33, NULL, 0, NULL, 0) == MARKED(5), "neither, at no width");
+    }
+}
+
 int main(int argc, char **argv)
 {
     check_program("compare_null", argc, argv);
@@ -198,9 +228,11 @@ int main(int argc, char **argv)
     compare_slices();
     compare_inverse_sheets();
     compare_steps();
+    compare_shuffles();
     for (enum kind kind = NARROW; kind < KINDS; kind++)
         compare_pieces(kind);
     check_points();
     check_sheet_points();
+    check_shuffle_points();
     return check_finish();
 }

@@ -1,5 +1,5 @@
 /*
- * fuzz [rounds]: all sixteen calls with random arguments, sound, nearly sound and
+ * fuzz [rounds]: all eighteen calls with random arguments, sound, nearly sound and
  * nonsense, each compared with the reference. The number of rounds is fixed, so that two
  * runs from one seed are the same.
  */
@@ -17,13 +17,20 @@
 #include "harness/random.h"
 #include "harness/run_call.h"
 #include "harness/sheet_maker.h"
+#include "harness/shuffle_call.h"
 #include "harness/slice_call.h"
 #include "harness/step_call.h"
 #include "reference/answer.h"
 #include "reference/digest.h"
 #include "reference/division.h"
 
-enum { DEFAULT_ROUNDS = 1000000, MOST_MESSAGE = 1 << 16, MOST_OUT = 200, CALLS = 16 };
+enum {
+    DEFAULT_ROUNDS = 1000000,
+    MOST_MESSAGE = 1 << 16,
+    MOST_OUT = 200,
+    MOST_FUZZED = 16, /* records */
+    CALLS = 18
+};
 
 static uint8_t bytes[MOST_MESSAGE];
 
@@ -212,6 +219,22 @@ static bool fuzz_step(enum direction direction)
     return is_refusal(check_step_call(&step, pipe, pipe_len));
 }
 
+/* Mostly whole records. Lengths over those that are lent here are claimed only: they are
+   refused, since no output is as long. */
+static bool fuzz_shuffle(enum direction direction)
+{
+    uint8_t records[MOST_FUZZED * RECORD_64];
+    uint32_t width = fuzz_width();
+    uint64_t count = random_below(random_below(16) == 0 ? MOST_FUZZED : 3);
+    size_t len = (size_t)fuzz_number(count * (width == 64 ? RECORD_64 : RECORD_32));
+    size_t out_len = fuzz_out_len(len, sizeof records);
+    random_pattern(records, len <= sizeof records ? len : 0);
+    if (len > sizeof records && len <= SHUFFLE_CALL_CAPACITY)
+        len += (size_t)1 << 32;
+    struct shuffle call = {direction, width, records, len, out_len};
+    return is_marked_refusal(check_shuffle_call(&call, NULL));
+}
+
 static bool fuzz_call(unsigned call)
 {
     enum kind kind = call % 2 == 0 ? NARROW : WIDE;
@@ -231,7 +254,9 @@ static bool fuzz_call(unsigned call)
     case 12: return fuzz_step(FORWARD);
     case 13: return fuzz_step(BACKWARD);
     case 14: return fuzz_inverse_sheet();
-    default: return fuzz_slice();
+    case 15: return fuzz_slice();
+    case 16: return fuzz_shuffle(FORWARD);
+    default: return fuzz_shuffle(BACKWARD);
     }
 }
 
@@ -242,13 +267,14 @@ int main(int argc, char **argv)
         "forward run",    "backward run",  "narrow opening", "wide opening",
         "narrow feeding", "wide feeding",  "narrow finish",  "wide finish",
         "forward step",   "backward step", "inverse sheet",  "slice",
+        "shuffle",        "unshuffle",
     };
     unsigned long calls[CALLS] = {0}, refused[CALLS] = {0};
     int argument = check_program("fuzz", argc, argv);
     unsigned long rounds =
         argument < argc ? strtoul(argv[argument], NULL, 10) : DEFAULT_ROUNDS;
     reference_init();
-    check_group("sixteen calls with random arguments");
+    check_group("eighteen calls with random arguments");
     for (unsigned long round = 0; round < rounds; round++) {
         unsigned call = (unsigned)random_below(CALLS);
         calls[call]++;

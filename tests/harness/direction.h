@@ -1,5 +1,5 @@
 /*
- * The two directions of a run of a sheet, and of a step of one block.
+ * The two directions of a run of a sheet, of a step of one block, and of the byte shuffle.
  */
 #ifndef HARNESS_DIRECTION_H
 #define HARNESS_DIRECTION_H

@@ -1,8 +1,8 @@
 /*
  * Answers as the C calls give them: a success's own number, or 2^32 times the refusal
- * number plus the offset. A feeding's success can be past 2^32, so its refusals are
- * marked by bit 63 as well. The numbers are written here again, and not taken from the
- * kit's header, so that a wrong number there is found.
+ * number plus the offset. A success of a feeding or of a byte shuffle, either way, can be
+ * past 2^32, so their refusals are marked by bit 63 as well. The numbers are written here
+ * again, and not taken from the kit's header, so that a wrong number there is found.
  */
 #ifndef REFERENCE_ANSWER_H
 #define REFERENCE_ANSWER_H
@@ -21,7 +21,8 @@ enum refusal {
     CUT_COMMAND = 9,
     BAD_PLACE = 10,
     SAME_PLACE = 11,
-    BAD_START = 14
+    BAD_START = 14,
+    BAD_RECORDS = 16
 };
 
 /* The most bytes of one message. */

@@ -1,7 +1,7 @@
 /*
  * Wrong archives: each call passes on to the archive's own, but for what the chosen mutant
  * does wrong. To be compiled with -DMUTANT=name, a name of the list below, and linked with
- * --wrap of all sixteen calls, so that the comparisons meet it in the archive's place.
+ * --wrap of all eighteen calls, so that the comparisons meet it in the archive's place.
  */
 #include <stdbool.h>
 #include <string.h>
@@ -144,7 +144,50 @@ enum mutant {
     block_backward_is_forward,
     block_backward_of_high_bits,
     block_backward_y_first,
-    block_backward_left_for_right
+    block_backward_left_for_right,
+    shuffle_always_refused,
+    shuffle_idles,
+    shuffle_copies,
+    shuffle_highest_first,
+    shuffle_words_reversed,
+    shuffle_vectors_apart,
+    shuffle_records_as_one,
+    shuffle_wide_as_narrow,
+    shuffle_directions_exchanged,
+    shuffle_is_unshuffle,
+    unshuffle_is_shuffle,
+    unshuffle_highest_first,
+    unshuffle_records_as_one,
+    shuffle_of_first,
+    shuffle_of_1024,
+    shuffle_loses_last,
+    unshuffle_loses_last,
+    shuffle_loses_a_value,
+    shuffle_writes_behind,
+    unshuffle_writes_behind,
+    shuffle_changes_records,
+    shuffle_answers_records,
+    shuffle_answers_output,
+    shuffle_answers_0,
+    shuffle_records_before_width,
+    shuffle_output_before_width,
+    shuffle_output_before_records,
+    shuffle_unmarked,
+    unshuffle_unmarked,
+    shuffle_offset_told,
+    shuffle_refused_writes,
+    shuffle_short_output_written,
+    shuffle_takes_one_less,
+    shuffle_needs_one_more,
+    shuffle_takes_vectors,
+    shuffle_takes_four_vectors,
+    shuffle_takes_any_length,
+    shuffle_empty_refused,
+    shuffle_width_by_16_bits,
+    shuffle_length_by_32_bits,
+    shuffle_output_by_32_bits,
+    shuffle_index_by_32_bits,
+    shuffle_without_pointer
 };
 
 #define IS(name) (MUTANT == (name))
@@ -858,4 +901,227 @@ STEP(WRAP(block_backward))
                               ? REAL(block_forward)
                               : REAL(block_backward);
     return step(real, true, width, pipe, pipe_len, block, block_len);
+}
+
+/* ---------------- records ---------------- */
+
+#define SHUFFLE(name)                                                                      \
+    uint64_t name(uint32_t width, const uint8_t *records, size_t records_len,              \
+                  uint8_t *out, size_t out_len)
+
+SHUFFLE(REAL(shuffle));
+SHUFFLE(REAL(unshuffle));
+
+struct shuffle {
+    bool backward;
+    uint32_t width;
+    const uint8_t *records;
+    size_t records_len;
+    uint8_t *out;
+    size_t out_len;
+};
+
+enum { VECTOR_WORDS = 8, RECORD_WORDS = EDONR_PLACES * VECTOR_WORDS };
+
+static size_t record_len(uint32_t width)
+{
+    return EDONR_PLACES * (size_t)width;
+}
+
+static uint64_t refused_marked(uint32_t refusal)
+{
+    return EDONR_MARK + edonr_refused(refusal, 0);
+}
+
+static uint64_t do_shuffle(struct shuffle s)
+{
+    return s.backward ? REAL(unshuffle)(s.width, s.records, s.records_len, s.out, s.out_len)
+                      : REAL(shuffle)(s.width, s.records, s.records_len, s.out, s.out_len);
+}
+
+/* What a shuffle would answer, with nothing written: without an output it is refused with 4
+   wherever it is not refused before, and the lengths tell what it is with one. */
+static uint64_t answer_of_shuffle(struct shuffle s)
+{
+    bool fits = s.out_len >= s.records_len;
+    s.out = NULL;
+    s.out_len = 0;
+    uint64_t answer = do_shuffle(s);
+    return edonr_marked_refusal(answer) == EDONR_REFUSED_OUTPUT && fits ? s.records_len
+                                                                        : answer;
+}
+
+static bool has_other_order(bool backward)
+{
+    return IS(shuffle_copies) || IS(shuffle_highest_first) || IS(shuffle_words_reversed) ||
+           IS(shuffle_vectors_apart) || IS(shuffle_records_as_one) ||
+           (backward && (IS(unshuffle_highest_first) || IS(unshuffle_records_as_one)));
+}
+
+/* Where a byte of a word stands in shuffled records; words are counted over all records. */
+static size_t other_place(const struct shuffle *s, size_t word, size_t byte)
+{
+    size_t word_len = s->width / 8, in_record = word % RECORD_WORDS;
+    size_t record = (word - in_record) * word_len;
+    if (IS(shuffle_copies))
+        return word * word_len + byte;
+    if (IS(shuffle_records_as_one) || IS(unshuffle_records_as_one))
+        return byte * (s->records_len / word_len) + word;
+    if (IS(shuffle_vectors_apart))
+        return record + in_record / VECTOR_WORDS * s->width + byte * VECTOR_WORDS +
+               in_record % VECTOR_WORDS;
+    if (IS(shuffle_words_reversed))
+        in_record = RECORD_WORDS - 1 - in_record;
+    else
+        byte = word_len - 1 - byte;
+    return record + byte * RECORD_WORDS + in_record;
+}
+
+static void shuffle_in_other_order(const struct shuffle *s)
+{
+    size_t word_len = s->width / 8;
+    for (size_t at = 0; at < s->records_len; at++) {
+        size_t place = other_place(s, at / word_len, at % word_len);
+        s->out[s->backward ? at : place] = s->records[s->backward ? place : at];
+    }
+}
+
+/* The bytes from the front that are written, of a shuffle that is not refused. */
+static size_t other_extent(const struct shuffle *s)
+{
+    size_t len = s->records_len, one = record_len(s->width);
+    bool loses_last = s->backward ? IS(unshuffle_loses_last) : IS(shuffle_loses_last);
+    if (IS(shuffle_idles))
+        return 0;
+    if (loses_last && len > 0)
+        return len - one;
+    if (IS(shuffle_of_first) && len > one)
+        return one;
+    if (IS(shuffle_of_1024) && len > 1024 * one)
+        return 1024 * one;
+    return len;
+}
+
+/* The bytes behind the first 2^32 are read from the front again. */
+static void shuffle_wrapped(struct shuffle s)
+{
+    struct shuffle front = s;
+    front.records_len = AT(32);
+    do_shuffle(front);
+    s.records_len -= AT(32);
+    s.out += AT(32);
+    s.out_len -= AT(32);
+    do_shuffle(s);
+}
+
+/* A shuffle that is not refused. */
+static void move_records(struct shuffle s)
+{
+    size_t one = record_len(s.width);
+    s.records_len = other_extent(&s);
+    if (IS(shuffle_wide_as_narrow))
+        s.width = 32;
+    if (IS(shuffle_index_by_32_bits) && s.records_len > AT(32))
+        shuffle_wrapped(s);
+    else if (has_other_order(s.backward))
+        shuffle_in_other_order(&s);
+    else
+        do_shuffle(s);
+    for (size_t end = one; IS(shuffle_loses_a_value) && end <= s.records_len; end += one)
+        if (s.out[end - 1] == 0xA7)
+            s.out[end - 1] = 0;
+}
+
+/* Whether a length that is no multiple of a record's is accepted. */
+static bool takes_length(const struct shuffle *s)
+{
+    size_t vectors = IS(shuffle_takes_vectors) ? 1 : 4;
+    if (IS(shuffle_takes_vectors) || IS(shuffle_takes_four_vectors))
+        return s->records_len % (vectors * s->width) == 0;
+    return IS(shuffle_takes_any_length);
+}
+
+/* For records of a known width that are refused with 16 or with 4. */
+static uint64_t other_length_refusal(struct shuffle s, uint64_t answer)
+{
+    size_t len = s.records_len, whole = len - len % record_len(s.width);
+    bool fits = s.out_len >= len, by_output = whole == len;
+    bool takes = by_output ? IS(shuffle_takes_one_less) && s.out_len == len - 1
+                           : takes_length(&s) && fits;
+    if (IS(shuffle_output_before_records) && !fits)
+        return refused_marked(EDONR_REFUSED_OUTPUT);
+    if (IS(shuffle_offset_told) && !by_output)
+        return answer + (uint32_t)whole + 1;
+    if (!takes)
+        return answer;
+    s.records_len = by_output ? len - record_len(s.width) : whole;
+    do_shuffle(s);
+    return len;
+}
+
+static uint64_t other_shuffle_refusal(struct shuffle s, uint64_t answer)
+{
+    uint32_t refusal = edonr_marked_refusal(answer);
+    bool writes = refusal == EDONR_REFUSED_OUTPUT ? IS(shuffle_short_output_written)
+                                                  : IS(shuffle_refused_writes);
+    if (writes && s.out_len > 0)
+        s.out[0] ^= 1;
+    if (s.backward ? IS(unshuffle_unmarked) : IS(shuffle_unmarked))
+        return answer - EDONR_MARK;
+    if (refusal != EDONR_REFUSED_WIDTH)
+        return other_length_refusal(s, answer);
+    if (IS(shuffle_records_before_width) && s.width > 0 &&
+        s.records_len % record_len(s.width) != 0)
+        return refused_marked(EDONR_REFUSED_RECORDS);
+    if (IS(shuffle_output_before_width) && s.out_len < s.records_len)
+        return refused_marked(EDONR_REFUSED_OUTPUT);
+    return answer;
+}
+
+/* What is answered for records that are written. */
+static uint64_t other_shuffle_answer(const struct shuffle *s)
+{
+    if (IS(shuffle_answers_records))
+        return s->records_len / record_len(s->width);
+    if (IS(shuffle_answers_output))
+        return s->out_len;
+    return IS(shuffle_answers_0) ? 0 : s->records_len;
+}
+
+static uint64_t shuffle(struct shuffle s)
+{
+    if (IS(shuffle_width_by_16_bits))
+        s.width = (uint16_t)s.width;
+    if (IS(shuffle_length_by_32_bits))
+        s.records_len = (uint32_t)s.records_len;
+    if (IS(shuffle_output_by_32_bits))
+        s.out_len = (uint32_t)s.out_len;
+    uint64_t answer = answer_of_shuffle(s);
+    if (edonr_marked_refusal(answer) != 0)
+        return other_shuffle_refusal(s, answer);
+    if ((IS(shuffle_empty_refused) && s.records_len == 0) ||
+        (IS(shuffle_without_pointer) && s.records == NULL))
+        return refused_marked(EDONR_REFUSED_RECORDS);
+    if (IS(shuffle_always_refused) ||
+        (IS(shuffle_needs_one_more) && s.out_len == s.records_len))
+        return refused_marked(EDONR_REFUSED_OUTPUT);
+    move_records(s);
+    if ((s.backward ? IS(unshuffle_writes_behind) : IS(shuffle_writes_behind)) &&
+        s.out_len > s.records_len)
+        s.out[s.records_len] ^= 1;
+    if (IS(shuffle_changes_records) && s.records_len > 0)
+        ((uint8_t *)s.records)[s.records_len - 1] ^= 1;
+    return other_shuffle_answer(&s);
+}
+
+SHUFFLE(WRAP(shuffle))
+{
+    bool backward = IS(shuffle_directions_exchanged) || IS(shuffle_is_unshuffle);
+    return shuffle((struct shuffle){backward, width, records, records_len, out, out_len});
+}
+
+SHUFFLE(WRAP(unshuffle))
+{
+    bool backward = !IS(shuffle_directions_exchanged) && !IS(unshuffle_is_shuffle);
+    return shuffle((struct shuffle){backward, width, records, records_len, out, out_len});
 }

@@ -10,6 +10,7 @@
 #include "../reference/division.h"
 #include "../reference/product.h"
 #include "../reference/sheet.h"
+#include "../reference/shuffle.h"
 #include "../reference/step.h"
 
 /* The kit needs no first call, so the probe makes none. */
@@ -78,6 +79,18 @@ uint64_t edonr_block_backward(uint32_t width, uint8_t *pipe, size_t pipe_len,
                               const uint8_t *block, size_t block_len)
 {
     return reference_block_backward(width, pipe, pipe_len, block, block_len);
+}
+
+uint64_t edonr_shuffle(uint32_t width, const uint8_t *records, size_t records_len,
+                       uint8_t *out, size_t out_len)
+{
+    return reference_shuffle(width, records, records_len, out, out_len);
+}
+
+uint64_t edonr_unshuffle(uint32_t width, const uint8_t *records, size_t records_len,
+                         uint8_t *out, size_t out_len)
+{
+    return reference_unshuffle(width, records, records_len, out, out_len);
 }
 
 /*

@@ -18,6 +18,7 @@ pub enum Refusal {
     Place,
     SamePlace,
     Start,
+    Records,
 }
 
 // The offset of a refusal is that of the first byte of the first faulty command of a sheet, and 0 for a refusal that has no place.
@@ -47,6 +48,7 @@ pub fn refusal_number(r: Refusal) -> u64
         Refusal::Place => 10,
         Refusal::SamePlace => 11,
         Refusal::Start => 14,
+        Refusal::Records => 16,
     }
 }
 

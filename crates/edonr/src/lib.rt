@@ -1,7 +1,9 @@
-// What C sees. An answer is one 64-bit number: a success's own number, or 2^32 times the refusal number plus the offset. Feeding, whose success can
-// pass 2^32, marks a refusal with bit 63 besides.
+// What C sees. An answer is one 64-bit number: a success's own number, or 2^32 times the refusal number plus the offset. Feeding and the layouts of records,
+// whose success can pass 2^32, mark a refusal with bit 63 besides.
 ghost use mathlib.Core.Path.{_≡_};
+ghost use Prim.Native.Nat.{_^_};
 ghost use Rattle.answer.specs.Number.{numberOf, markedNumber};
+ghost use Rattle.answer.specs.Injective.{Fits};
 ghost use Rattle.answer.specs.Refuse.{outcome};
 ghost use Rattle.quasigroup.specs.Product.{product};
 ghost use Rattle.quasigroup.specs.Division.{leftDivision, rightDivision};
@@ -15,6 +17,7 @@ ghost use Rattle.slice.specs.Slice.{sliceAnswer, sliceBytes};
 ghost use Rattle.slice.specs.Number.{sliceNumber};
 ghost use Rattle.inverse.specs.Inverse.{inverseAnswer, inverseOut};
 ghost use Rattle.pipe.specs.Call.{stepAnswer, stepBytes};
+ghost use Rattle.shuffle.specs.Shuffle.{recordsAnswer, shuffleOut, unshuffleOut};
 ghost use Rattle.narrow.specs.Outcomes.{narrowOf, hashOf as ofNarrow, fed as fedNarrow};
 ghost use Rattle.wide.specs.Outcomes.{wideOf, hashOf as ofWide, fed as fedWide};
 use narrow::Narrow;
@@ -96,6 +99,27 @@ pub extern "C" fn edonr_inverse_sheet(width: u32, sheet: &[u8], out: &mut [u8]) 
     ensures { λ _. ⌜ now (out .exit) ≡ inverseOut width (now (sheet .entry)) (now (out .entry)) ⌝ }
 {
     answer::number(inverter::inverse_sheet(width, sheet, out))
+}
+
+// The records, shuffled, into the first bytes of `out`, as many as they have. Their length fits beside a refusal with bit 63, so that the number tells the
+// answer.
+#[no_mangle]
+pub extern "C" fn edonr_shuffle(width: u32, records: &[u8], out: &mut [u8]) -> u64
+    ensures { λ r. ⌜ r ≡ markedNumber (recordsAnswer width (now (records .entry)) (now (out .entry))) ⌝ }
+    ensures { λ _. ⌜ now (out .exit) ≡ shuffleOut width (now (records .entry)) (now (out .entry)) ⌝ }
+    ensures { λ _. ⌜ Fits (2 ^ 63) (recordsAnswer width (now (records .entry)) (now (out .entry))) ⌝ }
+{
+    answer::marked_number(shuffler::shuffle(width, records, out))
+}
+
+// The shuffled records, as they were, into the first bytes of `out`, as many as they have.
+#[no_mangle]
+pub extern "C" fn edonr_unshuffle(width: u32, records: &[u8], out: &mut [u8]) -> u64
+    ensures { λ r. ⌜ r ≡ markedNumber (recordsAnswer width (now (records .entry)) (now (out .entry))) ⌝ }
+    ensures { λ _. ⌜ now (out .exit) ≡ unshuffleOut width (now (records .entry)) (now (out .entry)) ⌝ }
+    ensures { λ _. ⌜ Fits (2 ^ 63) (recordsAnswer width (now (records .entry)) (now (out .entry))) ⌝ }
+{
+    answer::marked_number(shuffler::unshuffle(width, records, out))
 }
 
 // The pipe after the block, in its place.

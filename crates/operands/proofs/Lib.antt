@@ -1,4 +1,5 @@
 pub mod Tests
 pub mod StepTests
+pub mod RecordTests
 pub mod Stored
 pub mod Fitting

@@ -1,5 +1,7 @@
-// What product and divisions on lent bytes answer, and steps of one block: decided by the width, the lengths of the operands and the room of the output.
+// What product and divisions on lent bytes answer, steps of one block and calls on records: decided by the width, the lengths of the operands and the room
+// of the output.
 // Calls that take a sheet test their width here too.
+pub mod records;
 pub mod step;
 
 ghost use mathlib.Core.Path.{_≡_};

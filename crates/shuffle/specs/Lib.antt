@@ -1,0 +1,5 @@
+pub mod Transposed
+pub mod Shuffle
+pub mod Places
+pub mod RoundTrip
+pub mod Fitting

@@ -1,0 +1,1 @@
+// Records laid out for the archive: definitions in specs/, laws in proofs/. There is no code here.

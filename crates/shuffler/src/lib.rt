@@ -1,0 +1,95 @@
+// Records laid out for the archive, a byte shuffle as archive filters call it, and the way back: each call tests its arguments and refuses by number.
+ghost use mathlib.Core.Path.{_≡_};
+ghost use mathlib.Core.Bool.{true};
+ghost use mathlib.Core.List.{_++_};
+ghost use Prim.Native.Nat.{_%_, _^_, _≤_};
+ghost use lib.ListN.{length, drop};
+ghost use Rattle.answer.specs.Injective.{Fits};
+ghost use Rattle.quasigroup.specs.Tables.{knownWidth};
+ghost use Rattle.shuffle.specs.Shuffle.{recordLength, shuffledRecord, unshuffledRecord, shuffled, unshuffled};
+ghost use Rattle.shuffle.specs.Shuffle.{recordsAnswer, shuffleOut, unshuffleOut};
+use answer::Answer;
+
+// The record `s`, shuffled, to the start of `out`.
+fn shuffle_record(width: u32, s: &[u8], out: &mut [u8])
+    requires { ⌜ (knownWidth width ≡ true) × (length (now s) ≡ recordLength width) × (recordLength width ≤ length (now out)) ⌝ }
+    ensures { λ _. ⌜ now (out .exit) ≡ shuffledRecord width (now (s .entry)) ++ drop (recordLength width) (now (out .entry)) ⌝ }
+{
+    if width == 32 {
+        record::shuffle32(s, out);
+        return;
+    }
+    record::shuffle64(s, out);
+}
+
+// The shuffled record `s`, as it was, to the start of `out`.
+fn unshuffle_record(width: u32, s: &[u8], out: &mut [u8])
+    requires { ⌜ (knownWidth width ≡ true) × (length (now s) ≡ recordLength width) × (recordLength width ≤ length (now out)) ⌝ }
+    ensures { λ _. ⌜ now (out .exit) ≡ unshuffledRecord width (now (s .entry)) ++ drop (recordLength width) (now (out .entry)) ⌝ }
+{
+    if width == 32 {
+        record::unshuffle32(s, out);
+        return;
+    }
+    record::unshuffle64(s, out);
+}
+
+// Each record, shuffled, to its place in `out`.
+fn shuffle_records(width: u32, records: &[u8], out: &mut [u8])
+    requires { let s = now records in ⌜ (knownWidth width ≡ true) × (length s % recordLength width ≡ 0) × (length s ≤ length (now out)) ⌝ }
+    ensures { λ _. let s = now (records .entry) in ⌜ now (out .exit) ≡ shuffled width s ++ drop (length s) (now (out .entry)) ⌝ }
+{
+    let n = 8 * (width as usize);
+    let count = records.len() / n;
+    let mut i = 0;
+    while i < count {
+        let at = i * n;
+        let end = at + n;
+        shuffle_record(width, &records[at..end], &mut out[at..]);
+        i += 1;
+    }
+}
+
+// Each shuffled record, as it was, to its place in `out`.
+fn unshuffle_records(width: u32, records: &[u8], out: &mut [u8])
+    requires { let s = now records in ⌜ (knownWidth width ≡ true) × (length s % recordLength width ≡ 0) × (length s ≤ length (now out)) ⌝ }
+    ensures { λ _. let s = now (records .entry) in ⌜ now (out .exit) ≡ unshuffled width s ++ drop (length s) (now (out .entry)) ⌝ }
+{
+    let n = 8 * (width as usize);
+    let count = records.len() / n;
+    let mut i = 0;
+    while i < count {
+        let at = i * n;
+        let end = at + n;
+        unshuffle_record(width, &records[at..end], &mut out[at..]);
+        i += 1;
+    }
+}
+
+// The records, shuffled, to the start of `out`; what stands behind them in `out` stays. The answer fits the number that C receives.
+pub fn shuffle(width: u32, records: &[u8], out: &mut [u8]) -> Answer
+    ensures { λ r. ⌜ r ≡ recordsAnswer width (now (records .entry)) (now (out .entry)) ⌝ }
+    ensures { λ r. ⌜ now (out .exit) ≡ shuffleOut width (now (records .entry)) (now (out .entry)) ⌝ }
+    ensures { λ r. ⌜ Fits (2 ^ 63) r ⌝ }
+{
+    let r = operands::records::answer_for(width, records, out);
+    if !answer::is_done(r) {
+        return r;
+    }
+    shuffle_records(width, records, out);
+    r
+}
+
+// The shuffled records, as they were, to the start of `out`; what stands behind them in `out` stays. The answer fits the number that C receives.
+pub fn unshuffle(width: u32, records: &[u8], out: &mut [u8]) -> Answer
+    ensures { λ r. ⌜ r ≡ recordsAnswer width (now (records .entry)) (now (out .entry)) ⌝ }
+    ensures { λ r. ⌜ now (out .exit) ≡ unshuffleOut width (now (records .entry)) (now (out .entry)) ⌝ }
+    ensures { λ r. ⌜ Fits (2 ^ 63) r ⌝ }
+{
+    let r = operands::records::answer_for(width, records, out);
+    if !answer::is_done(r) {
+        return r;
+    }
+    unshuffle_records(width, records, out);
+    r
+}
