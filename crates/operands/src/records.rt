@@ -15,7 +15,8 @@ pub fn answer_for(width: u32, records: &[u8], out: &[u8]) -> Answer
         return Answer::Refused(Refusal::Width, 0);
     }
     let n = 8 * (width as usize);
-    if records.len() % n != 0 {
+    let rest = records.len() % n;
+    if rest != 0 {
         return Answer::Refused(Refusal::Records, 0);
     }
     if out.len() < records.len() {

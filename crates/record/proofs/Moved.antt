@@ -1,26 +1,26 @@
 -- A record of 64 words of k bytes each, moved tile by tile: what stands where on the way, and at the end.
 use mathlib.Core.Path.{_≡_, refl, sym, ap, ap₂, subst, _∙_}
 use mathlib.Core.Bool.{true, false}
-use mathlib.Core.List.{List, _++_}
+use mathlib.Core.List.{List, [], _∷_, _++_}
 use Prim.Native.Nat.{ℕ, zero, suc, _+_, _*_, _-_, _≤_, _<_}
 use native.Mathlib.Nat.{add-mul, suc-mul, mul-comm, mul-le-mul-right}
 use native.Mathlib.Omega.{arith}
-use borrow.Author.Tests.{ltb-true, ltb-false}
-use lib.Dec.{ltb, lit≤}
+use borrow.Author.Tests.{eqb-true, eqb-false, ltb-true, ltb-false}
+use lib.Dec.{eqb, ltb, lit≤}
 use lib.ListN.{length, getD, take, drop, take-append-drop, length-drop}
-use lib.Seq.{length-take-le, getD-take, getD-drop, ext-getD}
+use lib.Seq.{sets, length-sets, length-take-le, getD-take, getD-drop, ext-getD}
 use Rattle.answer.proofs.Tests.{decide}
 use Rattle.shuffle.specs.Transposed.{transposed}
 use Rattle.shuffle.proofs.Transposed.{transposed-length, transposed-at, by-rows}
 use Rattle.tile.specs.Tile.{tiled}
-use Rattle.tile.proofs.Placed.{tiled-length, tiled-other, tiled-at}
+use Rattle.tile.proofs.Placed.{sets-other, sets-at, tiled-length, tiled-other, tiled-at}
 
--- The bytes of the first g words are moved and the first h bytes of the next four, each from its place in s to its place in out; and nothing behind the record
+-- The bytes of the first g words are moved and the first h bytes of the next q, each from its place in s to its place in out; and nothing behind the record
 -- has changed
-pub record Moved (k : ℕ) (from to : ℕ → ℕ → ℕ) (s old : List ℕ) (g h : ℕ) (out : List ℕ) : Type 0 where
+pub record Moved (k q : ℕ) (from to : ℕ → ℕ → ℕ) (s old : List ℕ) (g h : ℕ) (out : List ℕ) : Type 0 where
   pub size : length out ≡ length old
   pub words : (i j : ℕ) → i < g → j < k → getD out (to i j) 0 ≡ getD s (from i j) 0
-  pub bytes : (i j : ℕ) → g ≤ i → i < g + 4 → j < h → getD out (to i j) 0 ≡ getD s (from i j) 0
+  pub bytes : (i j : ℕ) → g ≤ i → i < g + q → j < h → getD out (to i j) 0 ≡ getD s (from i j) 0
   pub behind : (p : ℕ) → 64 * k ≤ p → getD out p 0 ≡ getD old p 0
 
 -- where byte j of word i stands in a record, and in a shuffled one
@@ -30,13 +30,13 @@ plain k i j = i * k + j
 abbrev pub across : ℕ → ℕ → ℕ
 across i j = j * 64 + i
 
-module _ (k : ℕ) (from to : ℕ → ℕ → ℕ) (s old : List ℕ) where
-  pub none-moved : Moved k from to s old 0 0 old
+module _ (k q : ℕ) (from to : ℕ → ℕ → ℕ) (s old : List ℕ) where
+  pub none-moved : Moved k q from to s old 0 0 old
   none-moved = record { size = refl; words = λ i j h g. absurd (omega arith); bytes = λ i j h g b. absurd (omega arith); behind = λ p h. refl }
 
-  -- four words whose bytes are all moved
-  pub four-moved : (g : ℕ) (out : List ℕ) → Moved k from to s old g k out → Moved k from to s old (g + 4) 0 out
-  four-moved g out m =
+  -- words whose bytes are all moved
+  pub next-words : (g : ℕ) (out : List ℕ) → Moved k q from to s old g k out → Moved k q from to s old (g + q) 0 out
+  next-words g out m =
       record {
         size = m .size;
         words = λ i j h b.
@@ -48,7 +48,7 @@ module _ (k : ℕ) (from to : ℕ → ℕ → ℕ) (s old : List ℕ) where
 -- ---- a tile
 
 module _ (k : ℕ) (s old : List ℕ) (room : 64 * k ≤ length old) (g h : ℕ) (inside : g + 4 ≤ 64) (bound : h + 4 ≤ k) (out : List ℕ) where
-  shuffle-tile : Moved k (plain k) across s old g h out → Moved k (plain k) across s old g (h + 4) (tiled k s (g * k + h) 64 out (h * 64 + g))
+  shuffle-tile : Moved k 4 (plain k) across s old g h out → Moved k 4 (plain k) across s old g (h + 4) (tiled k s (g * k + h) 64 out (h * 64 + g))
   shuffle-tile m =
       let o = h * 64 + g in
       record {
@@ -69,59 +69,70 @@ module _ (k : ℕ) (s old : List ℕ) (room : 64 * k ≤ length old) (g h : ℕ)
 
   -- .. whose places are given by numbers of their own
   pub shuffled-by : (i o : ℕ) → i ≡ g * k + h → o ≡ h * 64 + g → (new : List ℕ) → new ≡ tiled k s i 64 out o
-      → Moved k (plain k) across s old g h out → Moved k (plain k) across s old g (h + 4) new
+      → Moved k 4 (plain k) across s old g h out → Moved k 4 (plain k) across s old g (h + 4) new
   shuffled-by i o ei eo new e m =
-      subst (Moved k (plain k) across s old g (h + 4)) (sym (e ∙ ap₂ {C = List ℕ} (λ x y. tiled k s x 64 out y) ei eo)) (shuffle-tile m)
+      subst (Moved k 4 (plain k) across s old g (h + 4)) (sym (e ∙ ap₂ {C = List ℕ} (λ x y. tiled k s x 64 out y) ei eo)) (shuffle-tile m)
 
-  -- a row of word i stands before that of word a if i comes first, by k or more
-  row-below : (i a : ℕ) → i < a → i * k + k ≤ a * k
-  row-below i a x = omega (arith, mul-le-mul-right {m = 1 + i} {n = a} k (omega arith), suc-mul i k)
+-- ---- two bytes of a word
 
-  row-not-above : (i a : ℕ) → i ≤ a → i * k ≤ a * k
-  row-not-above i a x = mul-le-mul-right {m = i} {n = a} k x
+-- the bytes of word i end before those of a later word a begin
+row-below : (k i a : ℕ) → i < a → i * k + k ≤ a * k
+row-below k i a x = omega (arith, mul-le-mul-right {m = 1 + i} {n = a} k (omega arith), suc-mul i k)
 
-  -- byte j of word i, j below h, is none of the tile
-  not-in-tile : (i j : ℕ) → j < h → (a : ℕ) → (g + a) * k + h ≤ i * k + j → i * k + j < (g + a) * k + h + 4 → ⊥
-  not-in-tile i j y a c d =
-      decide (ltb (g + a) i) (λ t. omega (arith, row-below (g + a) i (ltb-true (g + a) i t)))
-      (λ f. omega (arith, row-not-above i (g + a) (ltb-false (g + a) i f)))
+module _ (k : ℕ) (s old : List ℕ) (room : 64 * k ≤ length old) (g h : ℕ) (inside : g < 64) (bound : h + 2 ≤ k) (out : List ℕ) where
+  -- bytes h and h + 1 of word g, from one row and the next
+  abbrev two : List ℕ
+  two = getD s (h * 64 + g) 0 ∷ getD s (h * 64 + g + 64) 0 ∷ []
 
-  row-of : (a : ℕ) → g * k + h + a * k ≡ (g + a) * k + h
-  row-of a = omega (arith, add-mul g a k)
+  two-at : (j : ℕ) → h ≤ j → j < h + 2 → getD two (j - h) 0 ≡ getD s (across g j) 0
+  two-at j x y =
+      decide (eqb j h)
+      (λ t.
+      let e = eqb-true j h t in
+      let a : j - h ≡ 0 = omega arith in
+      let b : h * 64 + g ≡ j * 64 + g = omega arith in
+      ap (λ (p : ℕ). getD two p 0) a ∙ ap (λ (p : ℕ). getD s p 0) b)
+      (λ f.
+      let a : j - h ≡ 1 = omega (arith, eqb-false j h f) in
+      let b : h * 64 + g + 64 ≡ j * 64 + g = omega (arith, a) in
+      ap (λ (p : ℕ). getD two p 0) a ∙ ap (λ (p : ℕ). getD s p 0) b)
 
-  unshuffle-tile : Moved k across (plain k) s old g h out → Moved k across (plain k) s old g (h + 4) (tiled 64 s (h * 64 + g) k out (g * k + h))
-  unshuffle-tile m =
+  unshuffle-pair : Moved k 1 across (plain k) s old g h out → Moved k 1 across (plain k) s old g (h + 2) (sets out (g * k + h) two)
+  unshuffle-pair m =
       let o = g * k + h in
-      let q = h * 64 + g in
+      let fits = row-below k g 64 inside in
       record {
-        size = tiled-length 64 k s q out o ∙ m .size;
-        words = λ i j x y. tiled-other 64 k s q out o (plain k i j) (λ a b c d. omega (arith, row-below i g x)) ∙ m .words i j x y;
+        size = length-sets out o two ∙ m .size;
+        words = λ i j x y. sets-other two out o (plain k i j) (λ a b. omega (arith, row-below k i g x)) ∙ m .words i j x y;
         bytes = λ i j x y z.
-            decide (ltb j h)
-            (λ t. tiled-other 64 k s q out o (plain k i j) (λ a b c d. not-in-tile i j (ltb-true j h t) a (omega (arith, row-of a)) (omega (arith, row-of a)))
-            ∙ m .bytes i j x y (ltb-true j h t))
+            let e : i ≡ g = omega arith in
+            subst (λ (u : ℕ). getD (sets out o two) (plain k u j) 0 ≡ getD s (across u j) 0) (sym e)
+            (decide (ltb j h)
+            (λ t. sets-other two out o (plain k g j) (λ a b. omega (arith, ltb-true j h t)) ∙ m .bytes g j (omega arith) (omega arith) (ltb-true j h t))
             (λ f.
             let n = ltb-false j h f in
-            let w : g + (i - g) ≡ i = omega arith in
-            let e : i * k + j ≡ o + (i - g) * k + (j - h) = omega (arith, n, row-of (i - g), ap (λ (u : ℕ). u * k) w) in
-            let d : (j - h) * 64 + (q + (i - g)) ≡ j * 64 + i = omega (arith, n) in
-            ap (λ (p : ℕ). getD (tiled 64 s q k out o) p 0) e
-            ∙ tiled-at 64 k s q out o (omega arith) (λ a b. omega (arith, m .size, room, row-of a, row-below (g + a) 64 (omega arith))) (i - g) (j - h)
-            (omega arith) (omega (arith, n))
-            ∙ ap (λ (p : ℕ). getD s p 0) d);
-        behind = λ p x. tiled-other 64 k s q out o p (λ a b c d. omega (arith, row-of a, row-below (g + a) 64 (omega arith))) ∙ m .behind p x;
+            let d : plain k g j ≡ o + (j - h) = omega (arith, n) in
+            ap (λ (p : ℕ). getD (sets out o two) p 0) d ∙ sets-at two out o (j - h) (omega (arith, m .size, room, fits)) (omega (arith, n)) ∙ two-at j n z));
+        behind = λ p x. sets-other two out o p (λ a b. omega (arith, fits)) ∙ m .behind p x;
       }
 
-  pub unshuffled-by : (i o : ℕ) → i ≡ h * 64 + g → o ≡ g * k + h → (new : List ℕ) → new ≡ tiled 64 s i k out o
-      → Moved k across (plain k) s old g h out → Moved k across (plain k) s old g (h + 4) new
+  -- .. whose places are given by numbers of their own
+  pub unshuffled-by : (i o : ℕ) → i ≡ h * 64 + g → o ≡ g * k + h → (new : List ℕ) → new ≡ sets out o (getD s i 0 ∷ getD s (i + 64) 0 ∷ [])
+      → Moved k 1 across (plain k) s old g h out → Moved k 1 across (plain k) s old g (h + 2) new
   unshuffled-by i o ei eo new e m =
-      subst (Moved k across (plain k) s old g (h + 4)) (sym (e ∙ ap₂ {C = List ℕ} (λ x y. tiled 64 s x k out y) ei eo)) (unshuffle-tile m)
+      subst (Moved k 1 across (plain k) s old g (h + 2))
+      (sym (e ∙ ap₂ {C = List ℕ} (λ x y. sets out y (getD s x 0 ∷ getD s (x + 64) 0 ∷ [])) ei eo)) (unshuffle-pair m)
+
+  -- .. as the bytes v of a number
+  pub unshuffled-as : (v : List ℕ) (i o : ℕ) → v ≡ getD s i 0 ∷ getD s (i + 64) 0 ∷ [] → i ≡ h * 64 + g → o ≡ g * k + h → (new : List ℕ)
+      → new ≡ sets out o v → Moved k 1 across (plain k) s old g h out → Moved k 1 across (plain k) s old g (h + 2) new
+  unshuffled-as v i o ev ei eo new e m = unshuffled-by i o ei eo new (e ∙ ap (sets out o) ev) m
 
 -- ---- all words
 
 module _ (k : ℕ) (s old : List ℕ) (room : 64 * k ≤ length old) (g : ℕ) (end : 64 ≤ g) (out : List ℕ) where
   -- the record's bytes, and those behind it
-  module _ (from to : ℕ → ℕ → ℕ) (m : Moved k from to s old g 0 out) where
+  module _ (q : ℕ) (from to : ℕ → ℕ → ℕ) (m : Moved k q from to s old g 0 out) where
     first-length : length (take (64 * k) out) ≡ 64 * k
     first-length = length-take-le (64 * k) out (omega (arith, m .size))
 
@@ -133,15 +144,15 @@ module _ (k : ℕ) (s old : List ℕ) (room : 64 * k ≤ length old) (g : ℕ) (
     all : (l : List ℕ) → take (64 * k) out ≡ l → out ≡ l ++ drop (64 * k) old
     all l e = sym (take-append-drop (64 * k) out) ∙ ap₂ {C = List ℕ} (λ x y. x ++ y) e rest
 
-  pub shuffle-all : Moved k (plain k) across s old g 0 out → out ≡ transposed k 64 s ++ drop (64 * k) old
+  pub shuffle-all : Moved k 4 (plain k) across s old g 0 out → out ≡ transposed k 64 s ++ drop (64 * k) old
   shuffle-all m =
-      all (plain k) across m (transposed k 64 s)
-      (by-rows 64 k (lit≤ tt) (take (64 * k) out) (transposed k 64 s) (first-length (plain k) across m ∙ mul-comm 64 k) (transposed-length k 64 s)
+      all 4 (plain k) across m (transposed k 64 s)
+      (by-rows 64 k (lit≤ tt) (take (64 * k) out) (transposed k 64 s) (first-length 4 (plain k) across m ∙ mul-comm 64 k) (transposed-length k 64 s)
       (λ j i h b. getD-take (64 * k) out (j * 64 + i) 0 (omega arith) ∙ m .words i j (omega arith) h ∙ sym (transposed-at k 64 s j i h b)))
 
-  pub unshuffle-all : 0 < k → Moved k across (plain k) s old g 0 out → out ≡ transposed 64 k s ++ drop (64 * k) old
+  pub unshuffle-all : 0 < k → Moved k 1 across (plain k) s old g 0 out → out ≡ transposed 64 k s ++ drop (64 * k) old
   unshuffle-all positive m =
-      all across (plain k) m (transposed 64 k s)
-      (by-rows k 64 positive (take (64 * k) out) (transposed 64 k s) (first-length across (plain k) m) (transposed-length 64 k s)
+      all 1 across (plain k) m (transposed 64 k s)
+      (by-rows k 64 positive (take (64 * k) out) (transposed 64 k s) (first-length 1 across (plain k) m) (transposed-length 64 k s)
       (λ i j h b. getD-take (64 * k) out (i * k + j) 0 (omega (arith, mul-le-mul-right {m = 1 + i} {n = 64} k (omega arith), suc-mul i k))
       ∙ m .words i j (omega arith) b ∙ sym (transposed-at 64 k s i j h b)))

@@ -30,7 +30,7 @@ pub record Progress (f : ℕ → List ℕ → List ℕ) (w : ℕ) (s old : List 
   pub bound : i ≤ count
   pub written : out ≡ eachRecord (f w) n i s ++ drop (i * n) old
 
-module _ (f : ℕ → List ℕ → List ℕ) (keeps : (w : ℕ) → knownWidth w ≡ true → Keeps (f w) (recordLength w)) (w : ℕ) (s old : List ℕ) where
+module _ (f : ℕ → List ℕ → List ℕ) (w : ℕ) (s old : List ℕ) where
   pub begin : knownWidth w ≡ true → length s % recordLength w ≡ 0 → length s ≤ length old
       → Progress f w s old (recordLength w) (length s / recordLength w) 0 old
   begin k h g =
@@ -44,89 +44,90 @@ module _ (f : ℕ → List ℕ → List ℕ) (keeps : (w : ℕ) → knownWidth w
         written = ap (λ (j : ℕ). drop j old) (sym (zero-mul (recordLength w)));
       }
 
-  module _ (n count i : ℕ) (out : List ℕ) (p : Progress f w s old n count i out) where
-    keep : Keeps (f w) n
-    keep = subst (Keeps (f w)) (sym (p .record-size)) (keeps w (p .known))
+module _ {f : ℕ → List ℕ → List ℕ} (keeps : (w : ℕ) → knownWidth w ≡ true → Keeps (f w) (recordLength w))
+    {w : ℕ} {s old : List ℕ} {n count i : ℕ} {out : List ℕ} (p : Progress f w s old n count i out) where
+  keep : Keeps (f w) n
+  keep = subst (Keeps (f w)) (sym (p .record-size)) (keeps w (p .known))
 
-    so-far : i * n ≤ length s
-    so-far = omega (arith, mul-le-mul-right {m = i} {n = count} n (p .bound), p .whole)
+  so-far : i * n ≤ length s
+  so-far = omega (arith, mul-le-mul-right {m = i} {n = count} n (p .bound), p .whole)
 
-    first-length : length (eachRecord (f w) n i s) ≡ i * n
-    first-length = each-length (f w) n keep i s so-far
+  first-length : length (eachRecord (f w) n i s) ≡ i * n
+  first-length = each-length (f w) n keep i s so-far
 
-    pub same-size : length out ≡ length old
-    same-size =
-        ap length (p .written) ∙ length-append (eachRecord (f w) n i s) (drop (i * n) old)
-        ∙ omega (arith, first-length, length-drop (i * n) old, so-far, p .room)
+  pub same-size : length out ≡ length old
+  same-size =
+      ap length (p .written) ∙ length-append (eachRecord (f w) n i s) (drop (i * n) old)
+      ∙ omega (arith, first-length, length-drop (i * n) old, so-far, p .room)
 
-    pub inside : i < count → i * n + n ≤ length s
-    inside h = omega (arith, mul-le-mul-right {m = 1 + i} {n = count} n (omega arith), suc-mul i n, p .whole)
+  pub inside : i < count → i * n + n ≤ length s
+  inside h = omega (arith, mul-le-mul-right {m = 1 + i} {n = count} n (omega arith), suc-mul i n, p .whole)
 
-    pub few : count ≤ length s
-    few = subst (λ (c : ℕ). c ≤ length s) (sym (p .many)) (div-le-self (length s) n)
+  pub few : count ≤ length s
+  few = subst (λ (c : ℕ). c ≤ length s) (sym (p .many)) (div-le-self (length s) n)
 
-    pub starts : i < count → i * n ≤ length out
-    starts h = omega (arith, so-far, p .room, same-size)
+  pub starts : i * n ≤ length out
+  starts = omega (arith, so-far, p .room, same-size)
 
-    -- what writing the next record asks
-    pub asked : i < count → (knownWidth w ≡ true) × (length (take (i * n + n - i * n) (drop (i * n) s)) ≡ recordLength w)
-        × (recordLength w ≤ length (midOf (i * n) (length out - i * n) out))
-    asked h =
-        let g = inside h in
-        let a : i * n + n - i * n ≤ length (drop (i * n) s) = omega (arith, length-drop (i * n) s) in
-        let b : length out - i * n ≤ length (drop (i * n) out) = omega (arith, length-drop (i * n) out) in (
-          p .known,
-          length-take-le _ (drop (i * n) s) a ∙ omega (arith, p .record-size),
-          omega (arith, length-take-le _ (drop (i * n) out) b, g, p .record-size, p .room, same-size),
-        )
+  -- what writing the next record asks
+  pub asked : i < count → (knownWidth w ≡ true) × (length (take (i * n + n - i * n) (drop (i * n) s)) ≡ recordLength w)
+      × (recordLength w ≤ length (midOf (i * n) (length out - i * n) out))
+  asked h =
+      let g = inside h in
+      let a : i * n + n - i * n ≤ length (drop (i * n) s) = omega (arith, length-drop (i * n) s) in
+      let b : length out - i * n ≤ length (drop (i * n) out) = omega (arith, length-drop (i * n) out) in (
+        p .known,
+        length-take-le _ (drop (i * n) s) a ∙ omega (arith, p .record-size),
+        omega (arith, length-take-le _ (drop (i * n) out) b, g, p .record-size, p .room, same-size),
+      )
 
-    pub end : count ≤ i → out ≡ allRecords f w s ++ drop (length s) old
-    end h =
-        let e : i ≡ count = omega (arith, p .bound) in
-        p .written ∙ ap (λ (j : ℕ). eachRecord (f w) n j s ++ drop (j * n) old) e
-        ∙ ap₂ {C = List ℕ} (λ x y. eachRecord (f w) n x s ++ drop y old) (p .many) (p .whole)
-        ∙ ap (λ (m : ℕ). eachRecord (f w) m (length s / m) s ++ drop (length s) old) (p .record-size)
+  pub end : count ≤ i → out ≡ allRecords f w s ++ drop (length s) old
+  end h =
+      let e : i ≡ count = omega (arith, p .bound) in
+      p .written ∙ ap (λ (j : ℕ). eachRecord (f w) n j s ++ drop (j * n) old) e
+      ∙ ap₂ {C = List ℕ} (λ x y. eachRecord (f w) n x s ++ drop y old) (p .many) (p .whole)
+      ∙ ap (λ (m : ℕ). eachRecord (f w) m (length s / m) s ++ drop (length s) old) (p .record-size)
 
-    -- one record more, written through the part of the output that starts at its place
-    module _ (h : i < count) (mid : List ℕ)
-        (e : mid ≡ f w (take (i * n + n - i * n) (drop (i * n) s)) ++ drop (recordLength w) (midOf (i * n) (length out - i * n) out)) where
-      abbrev made : List ℕ
-      made = f w (take n (drop (i * n) s))
+  -- one record more, written through the part of the output that starts at its place
+  module _ (h : i < count) (mid : List ℕ)
+      (e : mid ≡ f w (take (i * n + n - i * n) (drop (i * n) s)) ++ drop (recordLength w) (midOf (i * n) (length out - i * n) out)) where
+    abbrev made : List ℕ
+    made = f w (take n (drop (i * n) s))
 
-      part : mid ≡ made ++ drop n (midOf (i * n) (length out - i * n) out)
-      part =
-          let d : i * n + n - i * n ≡ n = omega arith in
-          e
-          ∙ ap₂ {C = List ℕ} (λ x y. f w (take x (drop (i * n) s)) ++ drop y (midOf (i * n) (length out - i * n) out)) d (sym (p .record-size))
+    part : mid ≡ made ++ drop n (midOf (i * n) (length out - i * n) out)
+    part =
+        let d : i * n + n - i * n ≡ n = omega arith in
+        e
+        ∙ ap₂ {C = List ℕ} (λ x y. f w (take x (drop (i * n) s)) ++ drop y (midOf (i * n) (length out - i * n) out)) d (sym (p .record-size))
 
-      -- the output with the record in its place
-      placed : putMid (i * n) (length out - i * n) out mid ≡ take (i * n) out ++ (made ++ drop (i * n + n) out)
-      placed =
-          ap (putMid (i * n) (length out - i * n) out) part
-          ∙ part-written n out (i * n) made (omega (arith, inside h, p .room, same-size))
+    -- the output with the record in its place
+    placed : putMid (i * n) (length out - i * n) out mid ≡ take (i * n) out ++ (made ++ drop (i * n + n) out)
+    placed =
+        ap (putMid (i * n) (length out - i * n) out) part
+        ∙ part-written n out (i * n) made (omega (arith, inside h, p .room, same-size))
 
-      before : take (i * n) out ≡ eachRecord (f w) n i s
-      before = ap (take (i * n)) (p .written) ∙ take-at (eachRecord (f w) n i s) (drop (i * n) old) (i * n) first-length
+    before : take (i * n) out ≡ eachRecord (f w) n i s
+    before = ap (take (i * n)) (p .written) ∙ take-at (eachRecord (f w) n i s) (drop (i * n) old) (i * n) first-length
 
-      behind : drop (i * n + n) out ≡ drop (i * n + n) old
-      behind =
-          ap (drop (i * n + n)) (p .written)
-          ∙ ap (λ (j : ℕ). drop (j + n) (eachRecord (f w) n i s ++ drop (i * n) old)) (sym first-length)
-          ∙ drop-append-add (eachRecord (f w) n i s) (drop (i * n) old) n ∙ drop-drop n (i * n) old
+    behind : drop (i * n + n) out ≡ drop (i * n + n) old
+    behind =
+        ap (drop (i * n + n)) (p .written)
+        ∙ ap (λ (j : ℕ). drop (j + n) (eachRecord (f w) n i s ++ drop (i * n) old)) (sym first-length)
+        ∙ drop-append-add (eachRecord (f w) n i s) (drop (i * n) old) n ∙ drop-drop n (i * n) old
 
-      pub next : Progress f w s old n count (i + 1) (putMid (i * n) (length out - i * n) out mid)
-      next =
-          let j : suc i * n ≡ i * n + n = suc-mul i n in
-          record {
-            known = p .known;
-            record-size = p .record-size;
-            many = p .many;
-            whole = p .whole;
-            room = p .room;
-            bound = omega arith;
-            written =
-                placed ∙ ap₂ {C = List ℕ} (λ x y. x ++ (made ++ y)) before behind
-                ∙ sym (append-assoc (eachRecord (f w) n i s) made (drop (i * n + n) old))
-                ∙ ap₂ {C = List ℕ} (λ x y. x ++ drop y old) (sym (each-more (f w) n keep i s)) (sym j)
-                ∙ ap (λ (q : ℕ). eachRecord (f w) n q s ++ drop (q * n) old) (sym (add-one i));
-          }
+    pub next : Progress f w s old n count (i + 1) (putMid (i * n) (length out - i * n) out mid)
+    next =
+        let j : suc i * n ≡ i * n + n = suc-mul i n in
+        record {
+          known = p .known;
+          record-size = p .record-size;
+          many = p .many;
+          whole = p .whole;
+          room = p .room;
+          bound = omega arith;
+          written =
+              placed ∙ ap₂ {C = List ℕ} (λ x y. x ++ (made ++ y)) before behind
+              ∙ sym (append-assoc (eachRecord (f w) n i s) made (drop (i * n + n) old))
+              ∙ ap₂ {C = List ℕ} (λ x y. x ++ drop y old) (sym (each-more (f w) n keep i s)) (sym j)
+              ∙ ap (λ (q : ℕ). eachRecord (f w) n q s ++ drop (q * n) old) (sym (add-one i));
+        }

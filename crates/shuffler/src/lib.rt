@@ -23,7 +23,7 @@ fn shuffle_record(width: u32, s: &[u8], out: &mut [u8])
 }
 
 // The shuffled record `s`, as it was, to the start of `out`.
-fn unshuffle_record(width: u32, s: &[u8], out: &mut [u8])
+fn restore_record(width: u32, s: &[u8], out: &mut [u8])
     requires { ⌜ (knownWidth width ≡ true) × (length (now s) ≡ recordLength width) × (recordLength width ≤ length (now out)) ⌝ }
     ensures { λ _. ⌜ now (out .exit) ≡ unshuffledRecord width (now (s .entry)) ++ drop (recordLength width) (now (out .entry)) ⌝ }
 {
@@ -51,7 +51,7 @@ fn shuffle_records(width: u32, records: &[u8], out: &mut [u8])
 }
 
 // Each shuffled record, as it was, to its place in `out`.
-fn unshuffle_records(width: u32, records: &[u8], out: &mut [u8])
+fn restore_records(width: u32, records: &[u8], out: &mut [u8])
     requires { let s = now records in ⌜ (knownWidth width ≡ true) × (length s % recordLength width ≡ 0) × (length s ≤ length (now out)) ⌝ }
     ensures { λ _. let s = now (records .entry) in ⌜ now (out .exit) ≡ unshuffled width s ++ drop (length s) (now (out .entry)) ⌝ }
 {
@@ -59,9 +59,9 @@ fn unshuffle_records(width: u32, records: &[u8], out: &mut [u8])
     let count = records.len() / n;
     let mut i = 0;
     while i < count {
-        let at = i * n;
-        let end = at + n;
-        unshuffle_record(width, &records[at..end], &mut out[at..]);
+        let from = i * n;
+        let to = from + n;
+        restore_record(width, &records[from..to], &mut out[from..]);
         i += 1;
     }
 }
@@ -90,6 +90,6 @@ pub fn unshuffle(width: u32, records: &[u8], out: &mut [u8]) -> Answer
     if !answer::is_done(r) {
         return r;
     }
-    unshuffle_records(width, records, out);
+    restore_records(width, records, out);
     r
 }

@@ -12,12 +12,12 @@ use Rattle.tile.specs.Tile.{placed, tiled}
 
 -- ---- elements stored one after the other
 
-sets-other : (vs l : List ℕ) (i p : ℕ) → (i ≤ p → p < i + length vs → ⊥) → getD (sets l i vs) p 0 ≡ getD l p 0
+pub sets-other : (vs l : List ℕ) (i p : ℕ) → (i ≤ p → p < i + length vs → ⊥) → getD (sets l i vs) p 0 ≡ getD l p 0
 sets-other [] l i p h = refl
 sets-other (v ∷ vs) l i p h =
     sets-other vs (set l i v) (suc i) p (λ a b. h (omega arith) (omega arith)) ∙ getD-set-other l i p v 0 (λ e. h (omega arith) (omega arith))
 
-sets-at : (vs l : List ℕ) (i b : ℕ) → i + length vs ≤ length l → b < length vs → getD (sets l i vs) (i + b) 0 ≡ getD vs b 0
+pub sets-at : (vs l : List ℕ) (i b : ℕ) → i + length vs ≤ length l → b < length vs → getD (sets l i vs) (i + b) 0 ≡ getD vs b 0
 sets-at [] l i b h g = absurd (omega arith)
 sets-at (v ∷ vs) l i zero h g =
     let e : i + 0 ≡ i = omega arith in

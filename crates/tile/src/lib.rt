@@ -44,7 +44,11 @@ fn transpose(a: u32, b: u32, c: u32, d: u32) -> [u32; 4]
     let q = low(b, d);
     let r = high(a, c);
     let s = high(b, d);
-    [even(p, q), odd(p, q), even(r, s), odd(r, s)]
+    let w = even(p, q);
+    let x = odd(p, q);
+    let y = even(r, s);
+    let z = odd(r, s);
+    [w, x, y, z]
 }
 
 // Four columns from `i` on, of four bytes each, `k` apart, as words.

@@ -4,12 +4,12 @@ use borrow.Author.Needs.{needs}
 use denote.Ref.{now}
 use native.Mathlib.Omega.{arith}
 use lib.ListN.{length}
-use Rattle.record.proofs.Moved.{Moved, plain, across, none-moved, four-moved, shuffled-by, shuffle-all}
+use Rattle.record.proofs.Moved.{Moved, plain, across, none-moved, next-words, shuffled-by, shuffle-all}
 use Rattle.record.proofs.shuffle64.Statement.{statement}
 use Rattle.record.proofs.shuffle64.Tie as tie
 
 abbrev Inv-loop : tie.InvT-loop
-Inv-loop s out₀ i₀ out i = (i ≤ 64) × (i % 4 ≡ 0) × (length s ≡ 512) × (512 ≤ length out₀) × Moved 8 (plain 8) across s out₀ i 0 out
+Inv-loop s out₀ i₀ out i = (i ≤ 64) × (i % 4 ≡ 0) × (length s ≡ 512) × (512 ≤ length out₀) × Moved 8 4 (plain 8) across s out₀ i 0 out
 
 abbrev μ-loop : tie.MeasureT-loop
 μ-loop s out₀ i₀ out i = 64 - i
@@ -17,7 +17,7 @@ abbrev μ-loop : tie.MeasureT-loop
 loop-holds : tie.Need-loop-holds Inv-loop μ-loop
 loop-holds c =
     let a = c .before .before .args in
-    (search needs, search needs, search needs, search needs, none-moved 8 (plain 8) across (now (a .s)) (now (a .out)))
+    (search needs, search needs, search needs, search needs, none-moved 8 4 (plain 8) across (now (a .s)) (now (a .out)))
 
 transpose-tile-requires : tie.Need-transpose-tile-requires Inv-loop μ-loop
 transpose-tile-requires c κs = (omega arith, omega (arith, c .before .before .loop .inv .4 .size))
@@ -37,7 +37,7 @@ loop-again c =
       omega arith,
       l .inv .2,
       l .inv .3,
-      four-moved 8 (plain 8) across s old (l .i) _
+      next-words 8 4 (plain 8) across s old (l .i) _
           (shuffled-by 8 s old (l .inv .3) (l .i) 4 (omega arith) (search needs) _ _ _ (omega arith) (omega arith) _
           (c .before .before .transpose-tile2 .ensures)
           (shuffled-by 8 s old (l .inv .3) (l .i) 0 (omega arith) (search needs) (l .out) _ _ (omega arith) (omega arith) _

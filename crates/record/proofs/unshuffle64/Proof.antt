@@ -1,15 +1,15 @@
 use mathlib.Core.Path.{_≡_}
-use Prim.Native.Nat.{_-_, _%_, _≤_}
+use Prim.Native.Nat.{_-_, _≤_}
 use borrow.Author.Needs.{needs}
 use denote.Ref.{now}
 use native.Mathlib.Omega.{arith}
 use lib.ListN.{length}
-use Rattle.record.proofs.Moved.{Moved, plain, across, none-moved, four-moved, unshuffled-by, unshuffle-all}
+use Rattle.record.proofs.Moved.{Moved, plain, across, none-moved, next-words, unshuffled-by, unshuffle-all}
 use Rattle.record.proofs.unshuffle64.Statement.{statement}
 use Rattle.record.proofs.unshuffle64.Tie as tie
 
 abbrev Inv-loop : tie.InvT-loop
-Inv-loop s out₀ i₀ out i = (i ≤ 64) × (i % 4 ≡ 0) × (length s ≡ 512) × (512 ≤ length out₀) × Moved 8 across (plain 8) s out₀ i 0 out
+Inv-loop s out₀ i₀ out i = (i ≤ 64) × (length s ≡ 512) × (512 ≤ length out₀) × Moved 8 1 across (plain 8) s out₀ i 0 out
 
 abbrev μ-loop : tie.MeasureT-loop
 μ-loop s out₀ i₀ out i = 64 - i
@@ -17,44 +17,60 @@ abbrev μ-loop : tie.MeasureT-loop
 loop-holds : tie.Need-loop-holds Inv-loop μ-loop
 loop-holds c =
     let a = c .before .before .args in
-    (search needs, search needs, search needs, search needs, none-moved 8 across (plain 8) (now (a .s)) (now (a .out)))
+    (search needs, search needs, search needs, none-moved 8 1 across (plain 8) (now (a .s)) (now (a .out)))
 
-transpose-tile-requires : tie.Need-transpose-tile-requires Inv-loop μ-loop
-transpose-tile-requires c κs = (omega arith, omega (arith, c .before .before .loop .inv .4 .size))
+requires : tie.Need-move-pair-requires Inv-loop μ-loop
+requires c κs = (omega arith, omega (arith, c .before .before .loop .inv .3 .size))
 
-transpose-tile-requires-2 : tie.Need-transpose-tile-requires-2 Inv-loop μ-loop
-transpose-tile-requires-2 c κs =
+requires-2 : tie.Need-move-pair-requires-2 Inv-loop μ-loop
+requires-2 c κs =
     let l = c .before .before .before .before .before .before .loop in
-    (omega arith, omega (arith, l .inv .4 .size, c .before .before .before .transpose-tile))
+    (omega arith, omega (arith, l .inv .3 .size, c .before .before .before .move-pair))
+
+requires-3 : tie.Need-move-pair-requires-3 Inv-loop μ-loop
+requires-3 c κs =
+    let l = c .before .before .before .before .before .before .before .before .before .before .loop in
+    (omega arith, omega (arith, l .inv .3 .size, c .before .before .before .move-pair2, c .before .before .before .before .before .before .before .move-pair))
+
+requires-4 : tie.Need-move-pair-requires-4 Inv-loop μ-loop
+requires-4 c κs =
+    let l = c .before .before .before .before .before .before .before .before .before .before .before .before .before .before .loop in
+    (omega arith, omega (arith, l .inv .3 .size, c .before .before .before .move-pair3, c .before .before .before .before .before .before .before .move-pair2, c .before .before .before .before .before .before .before .before .before .before .before .move-pair))
 
 loop-again : tie.Need-loop-again Inv-loop μ-loop
 loop-again c =
-    let l = c .before .before .before .before .before .before .before .before .before .loop in
-    let a = c .before .before .before .before .before .before .before .before .before .before .before .before .args in
+    let four = c .before .before in
+    let three = four .before .before .before .before in
+    let two = three .before .before .before .before in
+    let one = two .before .before .before .before in
+    let l = one .before .before .before .loop in
+    let a = one .before .before .before .before .before .before .args in
     let s = now (a .s) in
-    let old = now (a .out) in (
+    let old = now (a .out) in
+    let moved = unshuffled-by 8 s old (l .inv .2) (l .i) in (
       omega arith,
-      omega arith,
+      l .inv .1,
       l .inv .2,
-      l .inv .3,
-      four-moved 8 across (plain 8) s old (l .i) _
-          (unshuffled-by 8 s old (l .inv .3) (l .i) 4 (omega arith) (search needs) _ _ _ (omega arith) (omega arith) _
-          (c .before .before .transpose-tile2 .ensures)
-          (unshuffled-by 8 s old (l .inv .3) (l .i) 0 (omega arith) (search needs) (l .out) _ _ (omega arith) (omega arith) _
-          (c .before .before .before .before .before .before .transpose-tile .ensures) (l .inv .4))),
+      next-words 8 1 across (plain 8) s old (l .i) _
+          (moved 6 (search needs) (search needs) _ _ _ (omega arith) (omega arith) _ (four .move-pair4 .ensures)
+          (moved 4 (search needs) (search needs) _ _ _ (omega arith) (omega arith) _ (three .move-pair3 .ensures)
+          (moved 2 (search needs) (search needs) _ _ _ (omega arith) (omega arith) _ (two .move-pair2 .ensures)
+          (moved 0 (search needs) (search needs) (l .out) _ _ (omega arith) (omega arith) _ (one .move-pair .ensures) (l .inv .3))))),
     )
 
 same-length : tie.Need-same-length Inv-loop μ-loop
-same-length c = c .before .loop .inv .4 .size
+same-length c = c .before .loop .inv .3 .size
 
 returns : tie.Need-returns Inv-loop μ-loop
 returns c =
     let a = c .before .before .before .before .args in
     let l = c .before .loop in
-    unshuffle-all 8 (now (a .s)) (now (a .out)) (l .inv .3) (l .i) (search needs) (l .out) (search needs) (l .inv .4)
+    unshuffle-all 8 (now (a .s)) (now (a .out)) (l .inv .2) (l .i) (search needs) (l .out) (search needs) (l .inv .3)
 
 pub unshuffle64-spec : {M : Type 1} → statement M
 unshuffle64-spec =
     tie.close
     (tie.spec
-    Inv-loop μ-loop loop-holds (λ c. search needs) transpose-tile-requires (λ c. search needs) (λ c. search needs) (λ c. search needs) transpose-tile-requires-2 (λ c. search needs) (λ c. search needs) loop-again same-length returns)
+    Inv-loop μ-loop loop-holds (λ c. search needs) requires (λ c. search needs) (λ c. search needs) requires-2 (λ c. search needs)
+    (λ c. search needs) requires-3 (λ c. search needs) (λ c. search needs) requires-4 (λ c. search needs) (λ c. search needs) loop-again
+    same-length returns)

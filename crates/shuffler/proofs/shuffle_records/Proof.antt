@@ -19,74 +19,42 @@ div-count c = sized (c .before .before .args .width) (c .before .before .pre .0)
 
 loop-holds : tie.Need-loop-holds Inv-loop μ-loop
 loop-holds c =
-    let a = c .before .before in
-    begin shuffledRecord shuffled-keeps (a .args .width) (now (a .args .records)) (now (a .args .out)) (a .pre .0) (a .pre .1) (a .pre .2)
+    let t = c .before .before in
+    begin shuffledRecord (t .args .width) (now (t .args .records)) (now (t .args .out)) (t .pre .0) (t .pre .1) (t .pre .2)
 
 mul-at : tie.Need-mul-at Inv-loop μ-loop
-mul-at c =
-    let l = c .before .loop in
-    let a = c .before .before .before .before in
-    omega (arith, inside shuffledRecord shuffled-keeps (a .args .width) (now (a .args .records)) (now (a .args .out)) _ _ (l .i) (l .out) (l .inv) (c .loop-test .taken), a .good)
+mul-at c = omega (arith, inside shuffled-keeps (c .before .loop .inv) (c .loop-test .taken), c .before .before .before .before .good)
 
 add-end : tie.Need-add-end Inv-loop μ-loop
-add-end c =
-    let l = c .before .loop in
-    let a = c .before .before .before .before in
-    omega (arith, inside shuffledRecord shuffled-keeps (a .args .width) (now (a .args .records)) (now (a .args .out)) _ _ (l .i) (l .out) (l .inv) (c .loop-test .taken), a .good)
+add-end c = omega (arith, inside shuffled-keeps (c .before .loop .inv) (c .loop-test .taken), c .before .before .before .before .good)
 
 part-end : tie.Need-part-shuffle-record-end Inv-loop μ-loop
-part-end c =
-    let l = c .before .loop in
-    let a = c .before .before .before .before in
-    inside shuffledRecord shuffled-keeps (a .args .width) (now (a .args .records)) (now (a .args .out)) _ _ (l .i) (l .out) (l .inv) (c .loop-test .taken)
+part-end c = inside shuffled-keeps (c .before .loop .inv) (c .loop-test .taken)
 
 sub-2 : tie.Need-sub-shuffle-record-2 Inv-loop μ-loop
-sub-2 c =
-    let l = c .before .before .loop in
-    let a = c .before .before .before .before .before in
-    starts shuffledRecord shuffled-keeps (a .args .width) (now (a .args .records)) (now (a .args .out)) _ _ (l .i) (l .out) (l .inv) (c .before .loop-test .taken)
+sub-2 c = starts shuffled-keeps (c .before .before .loop .inv)
 
 part-start-2 : tie.Need-part-shuffle-record-start-2 Inv-loop μ-loop
-part-start-2 c =
-    let l = c .before .before .loop in
-    let a = c .before .before .before .before .before in
-    starts shuffledRecord shuffled-keeps (a .args .width) (now (a .args .records)) (now (a .args .out)) _ _ (l .i) (l .out) (l .inv) (c .before .loop-test .taken)
+part-start-2 c = starts shuffled-keeps (c .before .before .loop .inv)
 
 requires : tie.Need-shuffle-record-requires Inv-loop μ-loop
-requires c κs =
-    let l = c .before .before .before .loop in
-    let a = c .before .before .before .before .before .before in
-    asked shuffledRecord shuffled-keeps (a .args .width) (now (a .args .records)) (now (a .args .out)) _ _ (l .i) (l .out) (l .inv) (c .before .before .loop-test .taken)
+requires c κs = asked shuffled-keeps (c .before .before .before .loop .inv) (c .before .before .loop-test .taken)
 
 add-i : tie.Need-add-i Inv-loop μ-loop
 add-i c =
-    let l = c .before .before .before .before .before .before .loop in
-    let a = c .before .before .before .before .before .before .before .before .before in
-    omega (
-      arith,
-      few shuffledRecord shuffled-keeps (a .args .width) (now (a .args .records)) (now (a .args .out)) _ _ (l .i) (l .out) (l .inv),
-      c .before .before .before .before .before .loop-test .taken,
-      a .good,
-    )
+    let t = c .before .before .before .before .before in
+    omega (arith, few shuffled-keeps (t .before .loop .inv), t .loop-test .taken, t .before .before .before .before .good)
 
 loop-again : tie.Need-loop-again Inv-loop μ-loop
 loop-again c =
-    let l = c .before .before .before .before .before .before .loop in
-    let a = c .before .before .before .before .before .before .before .before .before in
-    next shuffledRecord shuffled-keeps (a .args .width) (now (a .args .records)) (now (a .args .out)) _ _ (l .i) (l .out) (l .inv)
-    (c .before .before .before .before .before .loop-test .taken) _ (c .before .before .shuffle-record .ensures)
+    let t = c .before .before .before .before .before in
+    next shuffled-keeps (t .before .loop .inv) (t .loop-test .taken) _ (c .before .before .shuffle-record .ensures)
 
 same-length : tie.Need-same-length Inv-loop μ-loop
-same-length c =
-    let l = c .before .loop in
-    let a = c .before .before .before .before in
-    same-size shuffledRecord shuffled-keeps (a .args .width) (now (a .args .records)) (now (a .args .out)) _ _ (l .i) (l .out) (l .inv)
+same-length c = same-size shuffled-keeps (c .before .loop .inv)
 
 returns : tie.Need-returns Inv-loop μ-loop
-returns c =
-    let l = c .before .loop in
-    let a = c .before .before .before .before in
-    end shuffledRecord shuffled-keeps (a .args .width) (now (a .args .records)) (now (a .args .out)) _ _ (l .i) (l .out) (l .inv) (search needs)
+returns c = end shuffled-keeps (c .before .loop .inv) (search needs)
 
 pub shuffle-records-spec : {M : Type 1} → statement M
 shuffle-records-spec =

@@ -11,8 +11,8 @@ returns c =
     let a = t .before .before .before .before .args in
     refused unshuffledRecord (a .width) (now (a .records)) (now (a .out)) (t .answer-for .ensures) (c .before .is-done .ensures) (c .if1 .taken)
 
-unshuffle-records-requires : tie.Need-unshuffle-records-requires
-unshuffle-records-requires c κs =
+restore-records-requires : tie.Need-restore-records-requires
+restore-records-requires c κs =
     let i = c .before in
     let t = i .before .before in
     let a = t .before .before .before .before .args in
@@ -24,11 +24,11 @@ returns-2 c =
     let t = i .before .before in
     let a = t .before .before .before .before .args in
     written unshuffledRecord (a .width) (now (a .records)) (now (a .out)) (t .answer-for .ensures) (i .before .is-done .ensures) (i .if1 .left)
-    (c .before .before .unshuffle-records .ensures)
+    (c .before .before .restore-records .ensures)
 
 pub unshuffle-spec : {M : Type 1} → statement M
 unshuffle-spec =
     tie.close
     (tie.spec
-    (λ c κs. search needs) (λ c κs. search needs) (λ c. search needs) returns unshuffle-records-requires (λ c. search needs)
+    (λ c κs. search needs) (λ c κs. search needs) (λ c. search needs) returns restore-records-requires (λ c. search needs)
     returns-2)

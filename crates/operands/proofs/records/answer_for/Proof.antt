@@ -12,8 +12,8 @@ returns c =
     let t = c .before .before .before .before in
     unknown-refused (t .args .width) (now (t .args .records)) (now (t .args .out)) (omega (arith, t .good)) (stops (c .before .known-width .ensures) (c .if1 .taken))
 
-rem-if2 : tie.Need-rem-if2
-rem-if2 c = omega (arith, sized (c .before .before .before .before .args .width) (goes-on (c .before .known-width .ensures) (c .if1 .left)) .some)
+rem-rest : tie.Need-rem-rest
+rem-rest c = omega (arith, sized (c .before .before .before .before .args .width) (goes-on (c .before .known-width .ensures) (c .if1 .left)) .some)
 
 returns-2 : tie.Need-returns-2
 returns-2 c =
@@ -39,4 +39,4 @@ returns-4 c =
 pub answer-for-spec : {M : Type 1} → statement M
 answer-for-spec =
     tie.close (tie.spec
-    (λ c κs. search needs) returns (λ c. search needs) rem-if2 returns-2 returns-3 returns-4)
+    (λ c κs. search needs) returns (λ c. search needs) rem-rest returns-2 returns-3 returns-4)
