@@ -47,9 +47,9 @@ static size_t record_run(uint32_t width, const uint8_t *sheet, size_t sheet_len)
         vectors[i * (width / 8)] = (uint8_t)(i + 1);
     for (uint32_t offset = 0; offset < sheet_len; len += record) {
         uint64_t answer = edonr_run_slice(width, vectors, record, sheet, sheet_len, offset, 1);
-        if (answer >> 32 != 0)
+        if (edonr_refusal(answer) != 0)
             return 0;
-        offset = (uint32_t)(answer & 0xffff);
+        offset = edonr_slice_offset(answer);
         memcpy(plain + len, vectors, record);
     }
     return len;
@@ -78,7 +78,7 @@ int main(int argc, char **argv)
     if (len == 0 || edonr_shuffle(width, plain, len, shuffled, len) != len ||
         edonr_unshuffle(width, shuffled, len, again, len) != len ||
         memcmp(plain, again, len) != 0) {
-        printf("a call was refused, or the bytes did not come back\n");
+        fprintf(stderr, "archive: a call was refused, or the bytes did not come back\n");
         return 1;
     }
     if (!write_file("plain.bin", plain, len) || !write_file("shuffled.bin", shuffled, len)) {

@@ -466,7 +466,7 @@ uint64_t edonr_block_backward(uint32_t width, uint8_t *pipe, size_t pipe_len,
  *          behind them stay.
  * Returns  records_len. As that can pass 2^32, a refusal is marked: it is EDONR_MARK + 2^32
  *          times its number, and edonr_marked_refusal tells it. No success reaches 2^63,
- *          since no memory holds two buffers of that length.
+ *          since no buffer has as many bytes.
  * Refuses  in this order:
  *          5 EDONR_REFUSED_WIDTH    width is neither 32 nor 64;
  *         16 EDONR_REFUSED_RECORDS  records_len is no multiple of EDONR_PLACES * w;

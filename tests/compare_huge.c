@@ -229,7 +229,8 @@ static uint8_t *map_records_out(size_t tail_at)
     return mapped;
 }
 
-/* Of the output a period at the front and the tail are looked at, with bytes behind. */
+/* Of the output the tail is seen whole, with bytes behind, and of the rest what was written
+   last to each place of the one period that it is in memory. */
 static void compare_shuffled(enum direction direction, uint32_t width, uint8_t *records_out,
                              size_t tail_at)
 {

@@ -271,7 +271,8 @@ static void compare_widths(void)
     for (unsigned i = 0; i < sizeof others / sizeof others[0]; i++)
         compare_refusals(others[i]);
     for (unsigned i = 0; i < RANDOM_WIDTHS; i++)
-        compare_refusals(i % 2 == 0 ? (uint32_t)random_word() : 32u ^ 1u << i / 2 % 32);
+        compare_refusals(i % 3 == 0 ? (uint32_t)random_word()
+                                    : 32u * (i % 3) ^ 1u << i / 3 % 32);
 }
 
 struct point {

@@ -2,6 +2,7 @@
 // whose success can pass 2^32, mark a refusal with bit 63 besides.
 ghost use mathlib.Core.Path.{_≡_};
 ghost use Prim.Native.Nat.{_^_};
+ghost use lib.ListN.{length};
 ghost use Rattle.answer.specs.Number.{numberOf, markedNumber};
 ghost use Rattle.answer.specs.Injective.{Fits};
 ghost use Rattle.answer.specs.Refuse.{outcome};
@@ -105,9 +106,9 @@ pub extern "C" fn edonr_inverse_sheet(width: u32, sheet: &[u8], out: &mut [u8]) 
 // answer.
 #[no_mangle]
 pub extern "C" fn edonr_shuffle(width: u32, records: &[u8], out: &mut [u8]) -> u64
-    ensures { λ r. ⌜ r ≡ markedNumber (recordsAnswer width (now (records .entry)) (now (out .entry))) ⌝ }
+    ensures { λ r. ⌜ r ≡ markedNumber (recordsAnswer width (length (now (records .entry))) (length (now (out .entry)))) ⌝ }
     ensures { λ _. ⌜ now (out .exit) ≡ shuffleOut width (now (records .entry)) (now (out .entry)) ⌝ }
-    ensures { λ _. ⌜ Fits (2 ^ 63) (recordsAnswer width (now (records .entry)) (now (out .entry))) ⌝ }
+    ensures { λ _. ⌜ Fits (2 ^ 63) (recordsAnswer width (length (now (records .entry))) (length (now (out .entry)))) ⌝ }
 {
     answer::marked_number(shuffler::shuffle(width, records, out))
 }
@@ -115,9 +116,9 @@ pub extern "C" fn edonr_shuffle(width: u32, records: &[u8], out: &mut [u8]) -> u
 // The shuffled records, as they were, into the first bytes of `out`, as many as they have.
 #[no_mangle]
 pub extern "C" fn edonr_unshuffle(width: u32, records: &[u8], out: &mut [u8]) -> u64
-    ensures { λ r. ⌜ r ≡ markedNumber (recordsAnswer width (now (records .entry)) (now (out .entry))) ⌝ }
+    ensures { λ r. ⌜ r ≡ markedNumber (recordsAnswer width (length (now (records .entry))) (length (now (out .entry)))) ⌝ }
     ensures { λ _. ⌜ now (out .exit) ≡ unshuffleOut width (now (records .entry)) (now (out .entry)) ⌝ }
-    ensures { λ _. ⌜ Fits (2 ^ 63) (recordsAnswer width (now (records .entry)) (now (out .entry))) ⌝ }
+    ensures { λ _. ⌜ Fits (2 ^ 63) (recordsAnswer width (length (now (records .entry))) (length (now (out .entry)))) ⌝ }
 {
     answer::marked_number(shuffler::unshuffle(width, records, out))
 }

@@ -1,8 +1,7 @@
--- A record of 64 words of k bytes each, moved tile by tile: what stands where on the way, and at the end.
+-- A record of 64 words of k bytes each, moved a few words at a time, out by tiles and back by pairs of bytes: what stands where on the way, and at the end.
 use mathlib.Core.Path.{_≡_, refl, sym, ap, ap₂, subst, _∙_}
-use mathlib.Core.Bool.{true, false}
 use mathlib.Core.List.{List, [], _∷_, _++_}
-use Prim.Native.Nat.{ℕ, zero, suc, _+_, _*_, _-_, _≤_, _<_}
+use Prim.Native.Nat.{ℕ, _+_, _*_, _-_, _≤_, _<_}
 use native.Mathlib.Nat.{add-mul, suc-mul, mul-comm, mul-le-mul-right}
 use native.Mathlib.Omega.{arith}
 use borrow.Author.Tests.{eqb-true, eqb-false, ltb-true, ltb-false}
@@ -10,10 +9,11 @@ use lib.Dec.{eqb, ltb, lit≤}
 use lib.ListN.{length, getD, take, drop, take-append-drop, length-drop}
 use lib.Seq.{sets, length-sets, length-take-le, getD-take, getD-drop, ext-getD}
 use Rattle.answer.proofs.Tests.{decide}
+use Rattle.memory.proofs.Lists.{sets-other, sets-at}
 use Rattle.shuffle.specs.Transposed.{transposed}
 use Rattle.shuffle.proofs.Transposed.{transposed-length, transposed-at, by-rows}
 use Rattle.tile.specs.Tile.{tiled}
-use Rattle.tile.proofs.Placed.{sets-other, sets-at, tiled-length, tiled-other, tiled-at}
+use Rattle.tile.proofs.Placed.{tiled-length, tiled-other, tiled-at}
 
 -- The bytes of the first g words are moved and the first h bytes of the next q, each from its place in s to its place in out; and nothing behind the record
 -- has changed
@@ -48,7 +48,7 @@ module _ (k q : ℕ) (from to : ℕ → ℕ → ℕ) (s old : List ℕ) where
 -- ---- a tile
 
 module _ (k : ℕ) (s old : List ℕ) (room : 64 * k ≤ length old) (g h : ℕ) (inside : g + 4 ≤ 64) (bound : h + 4 ≤ k) (out : List ℕ) where
-  shuffle-tile : Moved k 4 (plain k) across s old g h out → Moved k 4 (plain k) across s old g (h + 4) (tiled k s (g * k + h) 64 out (h * 64 + g))
+  shuffle-tile : Moved k 4 (plain k) across s old g h out → Moved k 4 (plain k) across s old g (h + 4) (tiled k 64 s (g * k + h) out (h * 64 + g))
   shuffle-tile m =
       let o = h * 64 + g in
       record {
@@ -60,18 +60,19 @@ module _ (k : ℕ) (s old : List ℕ) (room : 64 * k ≤ length old) (g h : ℕ)
             (λ f.
             let n = ltb-false j h f in
             let e : j * 64 + i ≡ o + (j - h) * 64 + (i - g) = omega (arith, n) in
-            let d : (i - g) * k + (g * k + h + (j - h)) ≡ i * k + j = omega (arith, n, sym (add-mul (i - g) g k), ap (λ (u : ℕ). u * k) {x = i - g + g} {y = i} (omega arith)) in
-            ap (λ (p : ℕ). getD (tiled k s (g * k + h) 64 out o) p 0) e
+            let w : i - g + g ≡ i = omega arith in
+            let d : (i - g) * k + (g * k + h + (j - h)) ≡ i * k + j = omega (arith, n, add-mul (i - g) g k, ap (λ (u : ℕ). u * k) w) in
+            ap (λ (p : ℕ). getD (tiled k 64 s (g * k + h) out o) p 0) e
             ∙ tiled-at k 64 s (g * k + h) out o (lit≤ tt) (λ a b. omega (arith, m .size, room)) (j - h) (i - g) (omega (arith, n)) (omega arith)
             ∙ ap (λ (p : ℕ). getD s p 0) d);
         behind = λ p x. tiled-other k 64 s (g * k + h) out o p (λ a b c d. omega arith) ∙ m .behind p x;
       }
 
   -- .. whose places are given by numbers of their own
-  pub shuffled-by : (i o : ℕ) → i ≡ g * k + h → o ≡ h * 64 + g → (new : List ℕ) → new ≡ tiled k s i 64 out o
+  pub shuffled-by : (i o : ℕ) → i ≡ g * k + h → o ≡ h * 64 + g → (new : List ℕ) → new ≡ tiled k 64 s i out o
       → Moved k 4 (plain k) across s old g h out → Moved k 4 (plain k) across s old g (h + 4) new
   shuffled-by i o ei eo new e m =
-      subst (Moved k 4 (plain k) across s old g (h + 4)) (sym (e ∙ ap₂ {C = List ℕ} (λ x y. tiled k s x 64 out y) ei eo)) (shuffle-tile m)
+      subst (Moved k 4 (plain k) across s old g (h + 4)) (sym (e ∙ ap₂ {C = List ℕ} (λ x y. tiled k 64 s x out y) ei eo)) (shuffle-tile m)
 
 -- ---- two bytes of a word
 
@@ -144,15 +145,15 @@ module _ (k : ℕ) (s old : List ℕ) (room : 64 * k ≤ length old) (g : ℕ) (
     all : (l : List ℕ) → take (64 * k) out ≡ l → out ≡ l ++ drop (64 * k) old
     all l e = sym (take-append-drop (64 * k) out) ∙ ap₂ {C = List ℕ} (λ x y. x ++ y) e rest
 
-  pub shuffle-all : Moved k 4 (plain k) across s old g 0 out → out ≡ transposed k 64 s ++ drop (64 * k) old
+  pub shuffle-all : Moved k 4 (plain k) across s old g 0 out → out ≡ transposed 64 k s ++ drop (64 * k) old
   shuffle-all m =
-      all 4 (plain k) across m (transposed k 64 s)
-      (by-rows 64 k (lit≤ tt) (take (64 * k) out) (transposed k 64 s) (first-length 4 (plain k) across m ∙ mul-comm 64 k) (transposed-length k 64 s)
-      (λ j i h b. getD-take (64 * k) out (j * 64 + i) 0 (omega arith) ∙ m .words i j (omega arith) h ∙ sym (transposed-at k 64 s j i h b)))
+      all 4 (plain k) across m (transposed 64 k s)
+      (by-rows 64 k (lit≤ tt) (take (64 * k) out) (transposed 64 k s) (first-length 4 (plain k) across m ∙ mul-comm 64 k) (transposed-length 64 k s)
+      (λ j i h b. getD-take (64 * k) out (j * 64 + i) 0 (omega arith) ∙ m .words i j (omega arith) h ∙ sym (transposed-at 64 k s j i h b)))
 
-  pub unshuffle-all : 0 < k → Moved k 1 across (plain k) s old g 0 out → out ≡ transposed 64 k s ++ drop (64 * k) old
+  pub unshuffle-all : 0 < k → Moved k 1 across (plain k) s old g 0 out → out ≡ transposed k 64 s ++ drop (64 * k) old
   unshuffle-all positive m =
-      all 1 across (plain k) m (transposed 64 k s)
-      (by-rows k 64 positive (take (64 * k) out) (transposed 64 k s) (first-length 1 across (plain k) m) (transposed-length 64 k s)
+      all 1 across (plain k) m (transposed k 64 s)
+      (by-rows k 64 positive (take (64 * k) out) (transposed k 64 s) (first-length 1 across (plain k) m) (transposed-length k 64 s)
       (λ i j h b. getD-take (64 * k) out (i * k + j) 0 (omega (arith, mul-le-mul-right {m = 1 + i} {n = 64} k (omega arith), suc-mul i k))
-      ∙ m .words i j (omega arith) b ∙ sym (transposed-at 64 k s i j h b)))
+      ∙ m .words i j (omega arith) b ∙ sym (transposed-at k 64 s i j h b)))

@@ -31,7 +31,8 @@ pairs-at (suc n) s i (suc b) h = let e : i + 1 + b ≡ i + suc b = omega arith i
 abbrev pub Paired : ℕ → List ℕ → ℕ → List ℕ → Type 0
 Paired m s i r = (b : ℕ) → b < m → getD r b 0 ≡ pairAt s (i + b)
 
-pub one-more : (m : ℕ) (s : List ℕ) (i : ℕ) (r : List ℕ) → m < length r → Paired m s i r → (x : ℕ) → x ≡ pairAt s (i + m) → Paired (m + 1) s i (set r m x)
+pub one-more : (m : ℕ) (s : List ℕ) (i : ℕ) (r : List ℕ) → m < length r → Paired m s i r → (x : ℕ) → x ≡ pairAt s (i + m)
+    → Paired (m + 1) s i (set r m x)
 one-more m s i r h p x e b g =
     decide (eqb b m)
     (λ t. ap (λ (j : ℕ). getD (set r m x) j 0) (eqb-true b m t) ∙ getD-set-same r m x 0 h ∙ e ∙ ap (λ (j : ℕ). pairAt s (i + j)) (sym (eqb-true b m t)))

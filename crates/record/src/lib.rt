@@ -1,4 +1,4 @@
-// One record laid out for the archive, and the way back, at both widths: tile by tile, a group of four words at a time.
+// One record laid out for the archive, tile by tile, and the way back, by pairs of bytes, at both widths.
 ghost use mathlib.Core.Path.{_≡_};
 ghost use mathlib.Core.List.{[], _∷_, _++_};
 ghost use Prim.Native.Nat.{_+_, _*_, _≤_};
@@ -66,9 +66,9 @@ fn row_pairs(s: &[u8], i: usize) -> [u16; 64]
     r
 }
 
-// The shuffled record `s` of 32-bit words, as it was, to the start of `out`. Pairs of rows go through arrays: the compiler then takes eight words at a time, and
-// the arrays stay in registers.
-pub fn unshuffle32(s: &[u8], out: &mut [u8])
+// The shuffled record `s` of 32-bit words, as it was, to the start of `out`. Pairs of rows go through arrays, which the compiler keeps in registers, so that it
+// takes eight words at a time.
+pub fn restore32(s: &[u8], out: &mut [u8])
     requires { ⌜ (length (now s) ≡ 256) × (256 ≤ length (now out)) ⌝ }
     ensures { λ _. ⌜ now (out .exit) ≡ unshuffledRecord 32 (now (s .entry)) ++ drop 256 (now (out .entry)) ⌝ }
 {
@@ -92,8 +92,9 @@ fn move_pair(s: &[u8], i: usize, out: &mut [u8], o: usize)
     store_pair(out, o, pair(s[i], s[j]));
 }
 
-// The shuffled record `s` of 64-bit words, as it was, to the start of `out`.
-pub fn unshuffle64(s: &[u8], out: &mut [u8])
+// The shuffled record `s` of 64-bit words, as it was, to the start of `out`. Without arrays, since four of them would not fit in registers, and with four pairs
+// a word the compiler takes eight words at a time here.
+pub fn restore64(s: &[u8], out: &mut [u8])
     requires { ⌜ (length (now s) ≡ 512) × (512 ≤ length (now out)) ⌝ }
     ensures { λ _. ⌜ now (out .exit) ≡ unshuffledRecord 64 (now (s .entry)) ++ drop 512 (now (out .entry)) ⌝ }
 {

@@ -1,9 +1,8 @@
 -- A matrix of bytes and its transpose, place by place.
-use mathlib.Core.Path.{_≡_, refl, sym, ap, ap₂, subst, _∙_}
-use mathlib.Core.List.{List, [], _∷_, _++_}
-use Prim.Native.Nat.{ℕ, zero, suc, _+_, _*_, _/_, _%_, _≤_, _<_}
+use mathlib.Core.Path.{_≡_, refl, sym, ap, subst, _∙_}
+use mathlib.Core.List.{List, _++_}
+use Prim.Native.Nat.{ℕ, zero, suc, _+_, _*_, _/_, _%_, _<_}
 use native.Mathlib.Nat.{zero-mul, suc-mul, mod-lt, div-add-mod', div-lt-iff-lt-mul}
-use native.Mathlib.Numerals.{add-one}
 use native.Mathlib.Omega.{arith}
 use lib.ListN.{length, getD, length-append, List·getD-append}
 use lib.Seq.{getD-append-add, ext-getD}
@@ -41,12 +40,12 @@ columns-at m n (suc c) s i (suc a) b h g =
     ap (λ (j : ℕ). getD (l ++ r) j 0) z ∙ getD-append-add l r (a * n + b) 0 ∙ columns-at m n c s (i + 1) a b (omega arith) g
     ∙ ap (λ (j : ℕ). getD s (b * m + j) 0) e
 
-module _ (m n : ℕ) (s : List ℕ) where
-  pub transposed-length : length (transposed m n s) ≡ m * n
+module _ (n m : ℕ) (s : List ℕ) where
+  pub transposed-length : length (transposed n m s) ≡ m * n
   unfolding transposed
   transposed-length = columns-length m n m s 0
 
-  pub transposed-at : (a b : ℕ) → a < m → b < n → getD (transposed m n s) (a * n + b) 0 ≡ getD s (b * m + a) 0
+  pub transposed-at : (a b : ℕ) → a < m → b < n → getD (transposed n m s) (a * n + b) 0 ≡ getD s (b * m + a) 0
   unfolding transposed
   transposed-at a b h g = columns-at m n m s 0 a b h g ∙ ap (λ (j : ℕ). getD s (b * m + j) 0) (omega arith)
 
@@ -61,7 +60,7 @@ module _ (m n : ℕ) (positive : 0 < m) (l s : List ℕ) (e : length l ≡ n * m
       (λ p h. subst (λ (q : ℕ). getD l q 0 ≡ getD s q 0) (div-add-mod' p m) (same (p / m) (p % m) (row-below p h) (mod-lt p positive)))
 
 -- the transpose of the transpose
-pub transposed-twice : (m n : ℕ) (s : List ℕ) → 0 < m → length s ≡ n * m → transposed n m (transposed m n s) ≡ s
-transposed-twice m n s positive e =
-    by-rows m n positive (transposed n m (transposed m n s)) s (transposed-length n m (transposed m n s)) e
-    (λ b a h g. transposed-at n m (transposed m n s) b a h g ∙ transposed-at m n s a b g h)
+pub transposed-twice : (n m : ℕ) (s : List ℕ) → 0 < m → length s ≡ n * m → transposed m n (transposed n m s) ≡ s
+transposed-twice n m s positive e =
+    by-rows m n positive (transposed m n (transposed n m s)) s (transposed-length m n (transposed n m s)) e
+    (λ b a h g. transposed-at m n (transposed n m s) b a h g ∙ transposed-at n m s a b g h)

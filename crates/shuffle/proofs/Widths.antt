@@ -1,20 +1,20 @@
--- A record at a known width is 64 words of some bytes, and whole records are as long as they are many.
-use mathlib.Core.Path.{_≡_, refl, sym, ap, _∙_}
+-- The length of a record at a known width, and of whole records.
+use mathlib.Core.Path.{_≡_, refl, sym, _∙_}
 use mathlib.Core.Bool.{true}
 use mathlib.Core.List.{List}
-use Prim.Native.Nat.{ℕ, _+_, _*_, _/_, _%_, _≤_, _<_}
+use Prim.Native.Nat.{ℕ, _*_, _/_, _%_, _≤_, _<_}
 use native.Mathlib.Nat.{div-add-mod', mul-comm}
 use native.Mathlib.Omega.{arith}
 use lib.Dec.{lit≤}
 use lib.ListN.{length}
 use Rattle.quasigroup.specs.Tables.{knownWidth}
 use Rattle.quasigroup.proofs.Widths.{of-known}
-use Rattle.shuffle.specs.Shuffle.{recordLength, shuffledRecord, unshuffledRecord}
+use Rattle.shuffle.specs.Shuffle.{recordLength, recordWords, shuffledRecord, unshuffledRecord}
 use Rattle.shuffle.proofs.Transposed.{transposed-length, transposed-twice}
 use Rattle.shuffle.proofs.Records.{Keeps}
 
 pub record Sized (w : ℕ) : Type 0 where
-  pub words : 64 * (w / 8) ≡ recordLength w
+  pub words : recordWords * (w / 8) ≡ recordLength w
   pub bytes : 0 < w / 8
   pub some : 0 < recordLength w
 
@@ -33,13 +33,13 @@ module _ (w : ℕ) (known : knownWidth w ≡ true) where
   bytes-first = mul-comm (w / 8) 64 ∙ sized w known .words
 
   pub shuffled-keeps : Keeps (shuffledRecord w) (recordLength w)
-  shuffled-keeps r e = transposed-length (w / 8) 64 r ∙ bytes-first
+  shuffled-keeps r = transposed-length 64 (w / 8) r ∙ bytes-first
 
   pub unshuffled-keeps : Keeps (unshuffledRecord w) (recordLength w)
-  unshuffled-keeps r e = transposed-length 64 (w / 8) r ∙ sized w known .words
+  unshuffled-keeps r = transposed-length (w / 8) 64 r ∙ sized w known .words
 
   pub unshuffled-back : (r : List ℕ) → length r ≡ recordLength w → unshuffledRecord w (shuffledRecord w r) ≡ r
-  unshuffled-back r e = transposed-twice (w / 8) 64 r (sized w known .bytes) (e ∙ sym (sized w known .words))
+  unshuffled-back r e = transposed-twice 64 (w / 8) r (sized w known .bytes) (e ∙ sym (sized w known .words))
 
   pub shuffled-back : (r : List ℕ) → length r ≡ recordLength w → shuffledRecord w (unshuffledRecord w r) ≡ r
-  shuffled-back r e = transposed-twice 64 (w / 8) r (lit≤ tt) (e ∙ sym bytes-first)
+  shuffled-back r e = transposed-twice (w / 8) 64 r (lit≤ tt) (e ∙ sym bytes-first)

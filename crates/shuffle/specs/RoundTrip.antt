@@ -1,4 +1,5 @@
--- Document 02, Paper 13, in its words: either way after the other, at one width, returns the bytes given. The statements; proofs/RoundTrip.antt shows them.
+-- Document 02, Paper 13, in its words: what a success writes, and that either way after the other, at one width, returns the bytes given. The statements;
+-- proofs/RoundTrip.antt shows them.
 use mathlib.Core.Path.{_≡_}
 use mathlib.Core.Bool.{true}
 use mathlib.Core.List.{List, [], _++_}
@@ -9,33 +10,51 @@ use Rattle.answer.specs.Refuse.{isDone, outcome}
 use Rattle.quasigroup.specs.Tables.{knownWidth}
 use Rattle.shuffle.specs.Shuffle.{recordLength, shuffledRecord, unshuffledRecord, allRecords, recordsAnswer, recordsOut}
 
--- of two ways of writing records: f, which makes as many bytes, and then g
-pub record Returns (f g : ℕ → List ℕ → List ℕ) (w : ℕ) (s : List ℕ) : Type 0 where
-  pub size : length (allRecords f w s) ≡ length s
-  pub bytes : allRecords g w (allRecords f w s) ≡ s
+-- ---- what is written, f being one of both ways
 
--- A success answers the length written, which is that of the records; f of the records stands in the first bytes, and each byte behind stays in its place
+-- A success answers the length written, which is that of the records; what f makes of them stands in the first bytes, and each byte behind stays in its place
 pub record Written (f : ℕ → List ℕ → List ℕ) (w : ℕ) (s out : List ℕ) : Type 0 where
-  pub answer : recordsAnswer w s out ≡ Done (length s)
+  pub answer : recordsAnswer w (length s) (length out) ≡ Done (length s)
   pub size : length (recordsOut f w s out) ≡ length out
   pub first : take (length s) (recordsOut f w s out) ≡ allRecords f w s
   pub behind : drop (length s) (recordsOut f w s out) ≡ drop (length s) out
 
--- .. and then the call with g, on the bytes that the first one wrote, over any output `home`: it answers what it would answer to the records themselves, so that
--- only too short an output is refused, and returns them
-pub record CallsReturn (f g : ℕ → List ℕ → List ℕ) (w : ℕ) (s out home : List ℕ) : Type 0 where
-  pub answer : recordsAnswer w (take (length s) (recordsOut f w s out)) home ≡ recordsAnswer w s home
-  pub bytes : recordsOut g w (take (length s) (recordsOut f w s out)) home ≡ outcome (recordsAnswer w s home) (s ++ drop (length s) home) home
+-- no records is fine: the answer is 0, and nothing is written
+pub record NothingWritten (f : ℕ → List ℕ → List ℕ) (w : ℕ) (out : List ℕ) : Type 0 where
+  pub answer : recordsAnswer w 0 (length out) ≡ Done 0
+  pub bytes : recordsOut f w [] out ≡ out
 
-pub record EitherWay (f g : ℕ → List ℕ → List ℕ) : Type 0 where
-  pub records : (w : ℕ) (s : List ℕ) → knownWidth w ≡ true → length s % recordLength w ≡ 0 → Returns f g w s
-  pub written : (w : ℕ) (s out : List ℕ) → isDone (recordsAnswer w s out) ≡ true → Written f w s out
-  pub calls : (w : ℕ) (s out home : List ℕ) → isDone (recordsAnswer w s out) ≡ true → CallsReturn f g w s out home
+-- each record is written by itself, so that records may be cut between two of them
+abbrev pub Apart : (ℕ → List ℕ → List ℕ) → ℕ → List ℕ → List ℕ → Type 0
+Apart f w a b = length a % recordLength w ≡ 0 → allRecords f w (a ++ b) ≡ allRecords f w a ++ allRecords f w b
 
-pub record EitherWayReturns : Type 0 where
-  pub shuffled : EitherWay shuffledRecord unshuffledRecord
-  pub unshuffled : EitherWay unshuffledRecord shuffledRecord
+pub record Writes (f : ℕ → List ℕ → List ℕ) : Type 0 where
+  pub success : (w : ℕ) (s out : List ℕ) → isDone (recordsAnswer w (length s) (length out)) ≡ true → Written f w s out
+  pub nothing : (w : ℕ) (out : List ℕ) → knownWidth w ≡ true → NothingWritten f w out
+  pub apart : (w : ℕ) (a b : List ℕ) → knownWidth w ≡ true → Apart f w a b
 
--- no records is fine: nothing is written
-abbrev pub NoRecords : Type 0
-NoRecords = (w : ℕ) (out : List ℕ) → knownWidth w ≡ true → recordsAnswer w [] out ≡ Done 0
+pub record BothWrite : Type 0 where
+  pub shuffled : Writes shuffledRecord
+  pub unshuffled : Writes unshuffledRecord
+
+-- ---- one way and then the other: f, and then g
+
+-- whole records keep their length, and are there again
+pub record Restored (f g : ℕ → List ℕ → List ℕ) (w : ℕ) (s : List ℕ) : Type 0 where
+  pub size : length (allRecords f w s) ≡ length s
+  pub bytes : allRecords g w (allRecords f w s) ≡ s
+
+-- After a success over the output `out`, the other call on the bytes that were written, over any output `next`: it answers what it would answer to the records
+-- themselves, so that only too short an output is refused, and returns them
+pub record CallsRestore (f g : ℕ → List ℕ → List ℕ) (w : ℕ) (s out next : List ℕ) : Type 0 where
+  pub answer : recordsAnswer w (length (take (length s) (recordsOut f w s out))) (length next) ≡ recordsAnswer w (length s) (length next)
+  pub bytes : recordsOut g w (take (length s) (recordsOut f w s out)) next
+      ≡ outcome (recordsAnswer w (length s) (length next)) (s ++ drop (length s) next) next
+
+pub record Restores (f g : ℕ → List ℕ → List ℕ) : Type 0 where
+  pub records : (w : ℕ) (s : List ℕ) → knownWidth w ≡ true → length s % recordLength w ≡ 0 → Restored f g w s
+  pub calls : (w : ℕ) (s out next : List ℕ) → isDone (recordsAnswer w (length s) (length out)) ≡ true → CallsRestore f g w s out next
+
+pub record EitherWayRestores : Type 0 where
+  pub shuffled : Restores shuffledRecord unshuffledRecord
+  pub unshuffled : Restores unshuffledRecord shuffledRecord

@@ -1,4 +1,4 @@
--- Document 02, Paper 13: records laid out for the archive, which archive filters call a byte shuffle, and the way back.
+-- Document 02, Paper 13: records laid out for the archive, which compression filters call a byte shuffle, and the way back.
 use mathlib.Core.List.{List, [], _++_}
 use Prim.Native.Nat.{ℕ, zero, suc, _*_, _/_, _%_}
 use lib.Dec.{eqb, leb}
@@ -14,14 +14,18 @@ use Rattle.shuffle.specs.Transposed.{transposed}
 abbrev pub recordLength : ℕ → ℕ
 recordLength w = 8 * w
 
--- .. or 64 words of w / 8 bytes: a row for each word. Shuffled, it is the lowest byte of every word, in word order, then the next byte of every
--- word, up to the highest: a row for each column
+-- .. and of eight words
+abbrev pub recordWords : ℕ
+recordWords = 64
+
+-- As a matrix of bytes it has a row of w / 8 bytes for each word. Shuffled, it is the lowest byte of every word, in word order, then the next byte of every
+-- word, up to the highest: its columns
 abbrev pub shuffledRecord : ℕ → List ℕ → List ℕ
-shuffledRecord w r = transposed (w / 8) 64 r
+shuffledRecord w r = transposed recordWords (w / 8) r
 
 -- .. and the way back
 abbrev pub unshuffledRecord : ℕ → List ℕ → List ℕ
-unshuffledRecord w r = transposed 64 (w / 8) r
+unshuffledRecord w r = transposed (w / 8) recordWords r
 
 -- what f makes of each of the first n records of s, m bytes each
 abbrev pub eachRecord : (List ℕ → List ℕ) → ℕ → ℕ → List ℕ → List ℕ
@@ -38,18 +42,19 @@ shuffled w s = allRecords shuffledRecord w s
 abbrev pub unshuffled : ℕ → List ℕ → List ℕ
 unshuffled w s = allRecords unshuffledRecord w s
 
--- What both calls answer: 5, the width is not 32 or 64; 16, the length is no multiple of a record's; 4, the output is shorter than the input; or the length
-abbrev pub recordsAnswer : ℕ → List ℕ → List ℕ → Answer
-recordsAnswer w s out =
+-- What both calls answer for m bytes of records and an output of n: 5, the width is not 32 or 64; 16, m is no multiple of a record's length; 4, the output is
+-- shorter than the input; or m
+abbrev pub recordsAnswer : ℕ → ℕ → ℕ → Answer
+recordsAnswer w m n =
     unless (knownWidth w) Width
-    (unless (eqb (length s % recordLength w) 0) Records
-    (unless (leb (length s) (length out)) Output
-    (Done (length s))))
+    (unless (eqb (m % recordLength w) 0) Records
+    (unless (leb m n) Output
+    (Done m)))
 
 -- The output after a call that writes what f makes of each record of s: that in its first bytes and those behind as they were, or, after a refusal, all
 -- as it was
 abbrev pub recordsOut : (ℕ → List ℕ → List ℕ) → ℕ → List ℕ → List ℕ → List ℕ
-recordsOut f w s out = outcome (recordsAnswer w s out) (allRecords f w s ++ drop (length s) out) out
+recordsOut f w s out = outcome (recordsAnswer w (length s) (length out)) (allRecords f w s ++ drop (length s) out) out
 
 abbrev pub shuffleOut : ℕ → List ℕ → List ℕ → List ℕ
 shuffleOut w s out = recordsOut shuffledRecord w s out

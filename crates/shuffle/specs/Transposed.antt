@@ -13,6 +13,6 @@ abbrev pub columns : ℕ → ℕ → ℕ → List ℕ → ℕ → List ℕ
 columns m n zero s i = []
 columns m n (suc c) s i = column m n s i ++ columns m n c s (i + 1)
 
--- all m columns of a matrix of n rows of m bytes
+-- of a matrix of n rows and m columns
 unfoldable pub transposed : ℕ → ℕ → List ℕ → List ℕ
-transposed m n s = columns m n m s 0
+transposed n m s = columns m n m s 0

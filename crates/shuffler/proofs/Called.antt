@@ -13,21 +13,21 @@ use Rattle.quasigroup.specs.Tables.{knownWidth}
 use Rattle.shuffle.specs.Shuffle.{recordLength, allRecords, recordsAnswer, recordsOut}
 use Rattle.shuffle.proofs.RoundTrip.{Accepted, success}
 
-module _ (f : ℕ → List ℕ → List ℕ) (w : ℕ) (s out : List ℕ) {r : Answer} (e : (r ≡ recordsAnswer w s out) × Fits (2 ^ 63) r)
+module _ (f : ℕ → List ℕ → List ℕ) (w : ℕ) (s out : List ℕ) {r : Answer} (e : (r ≡ recordsAnswer w (length s) (length out)) × Fits (2 ^ 63) r)
     {done : Bool} (d : done ≡ isDone r) where
   abbrev new : List ℕ
   new = allRecords f w s ++ drop (length s) out
 
   -- the call returns r, which fits, and leaves `last`
   abbrev Ended : List ℕ → Type 0
-  Ended last = (r ≡ recordsAnswer w s out) × ((last ≡ recordsOut f w s out) × Fits (2 ^ 63) r)
+  Ended last = (r ≡ recordsAnswer w (length s) (length out)) × ((last ≡ recordsOut f w s out) × Fits (2 ^ 63) r)
 
   pub refused : not done ≡ true → Ended out
   refused n = let h = ends-refused new out (e .0) d n in (h .0, (h .1, e .1))
 
   module _ (n : not done ≡ false) where
-    accepted : Accepted w s out
-    accepted = success w s out (ap isDone (sym (e .0)) ∙ goes-on d n)
+    accepted : Accepted w (length s) (length out)
+    accepted = success w (length s) (length out) (ap isDone (sym (e .0)) ∙ goes-on d n)
 
     pub asked : (knownWidth w ≡ true) × (length s % recordLength w ≡ 0) × (length s ≤ length out)
     asked = (accepted .known, accepted .whole, accepted .room)

@@ -1,7 +1,7 @@
 -- The loop over records, for either way of writing one.
 use mathlib.Core.Path.{_≡_, refl, sym, ap, ap₂, subst, _∙_}
 use mathlib.Core.Bool.{true}
-use mathlib.Core.List.{List, [], _++_, append-assoc}
+use mathlib.Core.List.{List, _++_, append-assoc}
 use Prim.Native.Nat.{ℕ, suc, _+_, _*_, _/_, _%_, _-_, _≤_, _<_}
 use native.Mathlib.Nat.{zero-mul, suc-mul, mul-le-mul-right, div-le-self}
 use native.Mathlib.Numerals.{add-one}
@@ -53,7 +53,7 @@ module _ {f : ℕ → List ℕ → List ℕ} (keeps : (w : ℕ) → knownWidth w
   so-far = omega (arith, mul-le-mul-right {m = i} {n = count} n (p .bound), p .whole)
 
   first-length : length (eachRecord (f w) n i s) ≡ i * n
-  first-length = each-length (f w) n keep i s so-far
+  first-length = each-length (f w) n keep i s
 
   pub same-size : length out ≡ length old
   same-size =
@@ -128,6 +128,6 @@ module _ {f : ℕ → List ℕ → List ℕ} (keeps : (w : ℕ) → knownWidth w
           written =
               placed ∙ ap₂ {C = List ℕ} (λ x y. x ++ (made ++ y)) before behind
               ∙ sym (append-assoc (eachRecord (f w) n i s) made (drop (i * n + n) old))
-              ∙ ap₂ {C = List ℕ} (λ x y. x ++ drop y old) (sym (each-more (f w) n keep i s)) (sym j)
+              ∙ ap₂ {C = List ℕ} (λ x y. x ++ drop y old) (sym (each-more (f w) n i s)) (sym j)
               ∙ ap (λ (q : ℕ). eachRecord (f w) n q s ++ drop (q * n) old) (sym (add-one i));
         }

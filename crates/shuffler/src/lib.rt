@@ -1,4 +1,4 @@
-// Records laid out for the archive, a byte shuffle as archive filters call it, and the way back: each call tests its arguments and refuses by number.
+// Records laid out for the archive, a byte shuffle as compression filters call it, and the way back: each call tests its arguments and refuses by number.
 ghost use mathlib.Core.Path.{_≡_};
 ghost use mathlib.Core.Bool.{true};
 ghost use mathlib.Core.List.{_++_};
@@ -28,10 +28,10 @@ fn restore_record(width: u32, s: &[u8], out: &mut [u8])
     ensures { λ _. ⌜ now (out .exit) ≡ unshuffledRecord width (now (s .entry)) ++ drop (recordLength width) (now (out .entry)) ⌝ }
 {
     if width == 32 {
-        record::unshuffle32(s, out);
+        record::restore32(s, out);
         return;
     }
-    record::unshuffle64(s, out);
+    record::restore64(s, out);
 }
 
 // Each record, shuffled, to its place in `out`.
@@ -68,7 +68,7 @@ fn restore_records(width: u32, records: &[u8], out: &mut [u8])
 
 // The records, shuffled, to the start of `out`; what stands behind them in `out` stays. The answer fits the number that C receives.
 pub fn shuffle(width: u32, records: &[u8], out: &mut [u8]) -> Answer
-    ensures { λ r. ⌜ r ≡ recordsAnswer width (now (records .entry)) (now (out .entry)) ⌝ }
+    ensures { λ r. ⌜ r ≡ recordsAnswer width (length (now (records .entry))) (length (now (out .entry))) ⌝ }
     ensures { λ r. ⌜ now (out .exit) ≡ shuffleOut width (now (records .entry)) (now (out .entry)) ⌝ }
     ensures { λ r. ⌜ Fits (2 ^ 63) r ⌝ }
 {
@@ -82,7 +82,7 @@ pub fn shuffle(width: u32, records: &[u8], out: &mut [u8]) -> Answer
 
 // The shuffled records, as they were, to the start of `out`; what stands behind them in `out` stays. The answer fits the number that C receives.
 pub fn unshuffle(width: u32, records: &[u8], out: &mut [u8]) -> Answer
-    ensures { λ r. ⌜ r ≡ recordsAnswer width (now (records .entry)) (now (out .entry)) ⌝ }
+    ensures { λ r. ⌜ r ≡ recordsAnswer width (length (now (records .entry))) (length (now (out .entry))) ⌝ }
     ensures { λ r. ⌜ now (out .exit) ≡ unshuffleOut width (now (records .entry)) (now (out .entry)) ⌝ }
     ensures { λ r. ⌜ Fits (2 ^ 63) r ⌝ }
 {

@@ -1,32 +1,15 @@
 -- What stands where after columns were placed as rows.
-use mathlib.Core.Path.{_≡_, refl, sym, ap, _∙_}
-use mathlib.Core.List.{List, [], _∷_}
+use mathlib.Core.Path.{_≡_, refl, ap, _∙_}
+use mathlib.Core.List.{List}
 use Prim.Native.Nat.{ℕ, zero, suc, _+_, _*_, _≤_, _<_}
 use native.Mathlib.Nat.{zero-mul, suc-mul}
 use native.Mathlib.Omega.{arith}
-use lib.ListN.{length, getD, set, length-set}
-use lib.Seq.{sets, length-sets, getD-set-same, getD-set-other}
+use lib.ListN.{length, getD}
+use lib.Seq.{sets, length-sets}
+use Rattle.memory.proofs.Lists.{sets-other, sets-at}
 use Rattle.shuffle.specs.Transposed.{column}
 use Rattle.shuffle.proofs.Transposed.{column-at}
 use Rattle.tile.specs.Tile.{placed, tiled}
-
--- ---- elements stored one after the other
-
-pub sets-other : (vs l : List ℕ) (i p : ℕ) → (i ≤ p → p < i + length vs → ⊥) → getD (sets l i vs) p 0 ≡ getD l p 0
-sets-other [] l i p h = refl
-sets-other (v ∷ vs) l i p h =
-    sets-other vs (set l i v) (suc i) p (λ a b. h (omega arith) (omega arith)) ∙ getD-set-other l i p v 0 (λ e. h (omega arith) (omega arith))
-
-pub sets-at : (vs l : List ℕ) (i b : ℕ) → i + length vs ≤ length l → b < length vs → getD (sets l i vs) (i + b) 0 ≡ getD vs b 0
-sets-at [] l i b h g = absurd (omega arith)
-sets-at (v ∷ vs) l i zero h g =
-    let e : i + 0 ≡ i = omega arith in
-    ap (λ (p : ℕ). getD (sets (set l i v) (suc i) vs) p 0) e ∙ sets-other vs (set l i v) (suc i) i (λ a b. omega arith)
-    ∙ getD-set-same l i v 0 (omega arith)
-sets-at (v ∷ vs) l i (suc b) h g =
-    let e : i + suc b ≡ suc i + b = omega arith in
-    ap (λ (p : ℕ). getD (sets (set l i v) (suc i) vs) p 0) e
-    ∙ sets-at vs (set l i v) (suc i) b (omega (arith, length-set l i v)) (omega arith)
 
 -- ---- columns placed as rows
 
@@ -65,12 +48,12 @@ module _ (k m : ℕ) (s : List ℕ) where
       ∙ ap (λ (j : ℕ). getD s (b * k + j) 0) z
 
   module _ (i : ℕ) (out : List ℕ) (o : ℕ) where
-    pub tiled-length : length (tiled k s i m out o) ≡ length out
+    pub tiled-length : length (tiled k m s i out o) ≡ length out
     tiled-length = placed-length 4 i out o
 
-    pub tiled-other : (p : ℕ) → Outside 4 o p → getD (tiled k s i m out o) p 0 ≡ getD out p 0
+    pub tiled-other : (p : ℕ) → Outside 4 o p → getD (tiled k m s i out o) p 0 ≡ getD out p 0
     tiled-other p h = placed-other 4 i out o p h
 
     pub tiled-at : 4 ≤ m → ((a : ℕ) → a < 4 → o + a * m + 4 ≤ length out) → (a b : ℕ) → a < 4 → b < 4
-        → getD (tiled k s i m out o) (o + a * m + b) 0 ≡ getD s (b * k + (i + a)) 0
+        → getD (tiled k m s i out o) (o + a * m + b) 0 ≡ getD s (b * k + (i + a)) 0
     tiled-at four room a b h g = placed-at four 4 i out o room a b h g

@@ -1,5 +1,5 @@
--- Bytes of words that trade places: what the halves and the bytes in turn are of two words, and the transpose of the bytes of four.
-use mathlib.Core.Path.{_≡_, refl, sym, ap, ap₂, _∙_}
+-- Halves and bytes of words, and the transpose of the bytes of four.
+use mathlib.Core.Path.{_≡_, ap, _∙_}
 use mathlib.Core.List.{List, [], _∷_}
 use Prim.Native.Nat.{ℕ, zero, suc, _+_, _*_, _/_, _%_, _^_, _<_}
 use native.Mathlib.Omega.{arith}
@@ -9,27 +9,22 @@ use lib.Seq.{sets}
 use Rattle.memory.proofs.Bytes.{bytes-word, no-bytes, cons-bytes, append-bytes}
 use Rattle.shuffle.specs.Transposed.{column, columns, transposed}
 use Rattle.shuffle.proofs.Transposed.{columns-length}
+use Rattle.tile.specs.Words.{lowHalves, highHalves, evenBytes, oddBytes}
 use Rattle.tile.specs.Tile.{tiled}
 
 -- the word of four bytes
 abbrev joined : ℕ → ℕ → ℕ → ℕ → ℕ
 joined x y z t = x + 256 * (y + 256 * (z + 256 * (t + 256 * 0)))
 
-abbrev evens : ℕ → ℕ → ℕ
-evens x y = x % 256 + 65536 * (x / 65536 % 256) + 256 * (y % 256 + 65536 * (y / 65536 % 256))
-
-abbrev odds : ℕ → ℕ → ℕ
-odds x y = x / 256 % 256 + 65536 * (x / 16777216) + 256 * (y / 256 % 256 + 65536 * (y / 16777216))
-
 -- a word whose bytes 0 and 2 are x and y, another with z and t
-evens-joined : (u v x y z t : ℕ) → u % 256 ≡ x → u / 65536 % 256 ≡ z → v % 256 ≡ y → v / 65536 % 256 ≡ t → evens u v ≡ joined x y z t
+evens-joined : (u v x y z t : ℕ) → u % 256 ≡ x → u / 65536 % 256 ≡ z → v % 256 ≡ y → v / 65536 % 256 ≡ t → evenBytes u v ≡ joined x y z t
 evens-joined u v x y z t a b c d = omega arith
 
-odds-joined : (u v x y z t : ℕ) → u / 256 % 256 ≡ x → u / 16777216 ≡ z → v / 256 % 256 ≡ y → v / 16777216 ≡ t → odds u v ≡ joined x y z t
+odds-joined : (u v x y z t : ℕ) → u / 256 % 256 ≡ x → u / 16777216 ≡ z → v / 256 % 256 ≡ y → v / 16777216 ≡ t → oddBytes u v ≡ joined x y z t
 odds-joined u v x y z t a b c d = omega arith
 
 -- the bytes of two low halves
-module _ (x y u : ℕ) (e : u ≡ x % 65536 + 65536 * (y % 65536)) where
+module _ (x y u : ℕ) (e : u ≡ lowHalves x y) where
   low-0 : u % 256 ≡ x % 256
   low-0 = omega arith
 
@@ -43,7 +38,7 @@ module _ (x y u : ℕ) (e : u ≡ x % 65536 + 65536 * (y % 65536)) where
   low-3 = omega arith
 
 -- .. and of two high halves
-module _ (x y u : ℕ) (h : x < 2 ^ 32) (g : y < 2 ^ 32) (e : u ≡ x / 65536 + 65536 * (y / 65536)) where
+module _ (x y u : ℕ) (h : x < 2 ^ 32) (g : y < 2 ^ 32) (e : u ≡ highHalves x y) where
   high-0 : u % 256 ≡ x / 256 / 256 % 256
   high-0 = omega arith
 
@@ -58,9 +53,8 @@ module _ (x y u : ℕ) (h : x < 2 ^ 32) (g : y < 2 ^ 32) (e : u ≡ x / 65536 + 
 
 -- the words of the transpose
 module _ (a b c d : ℕ) (fa : a < 2 ^ 32) (fb : b < 2 ^ 32) (fc : c < 2 ^ 32) (fd : d < 2 ^ 32)
-    (p q r s : ℕ) (ep : p ≡ a % 65536 + 65536 * (c % 65536)) (eq : q ≡ b % 65536 + 65536 * (d % 65536))
-    (er : r ≡ a / 65536 + 65536 * (c / 65536)) (es : s ≡ b / 65536 + 65536 * (d / 65536)) where
-  pub four-words : (x y z t : ℕ) → x ≡ evens p q → y ≡ odds p q → z ≡ evens r s → t ≡ odds r s
+    (p q r s : ℕ) (ep : p ≡ lowHalves a c) (eq : q ≡ lowHalves b d) (er : r ≡ highHalves a c) (es : s ≡ highHalves b d) where
+  pub four-words : (x y z t : ℕ) → x ≡ evenBytes p q → y ≡ oddBytes p q → z ≡ evenBytes r s → t ≡ oddBytes r s
       → x ∷ y ∷ z ∷ t ∷ [] ≡ wordsAt 4 4 (transposed 4 4 (bytesOf 4 (a ∷ b ∷ c ∷ d ∷ []))) 0
   unfolding transposed
   four-words x y z t ex ey ez et =
@@ -128,7 +122,7 @@ columns-bytes s small m n (suc c) i = append-bytes (column m n s i) (columns m n
 pub four-rows : (s : List ℕ) → Bytes s → (i k : ℕ) (v : List ℕ) → v ≡ wordsAt 4 4 (columns k 4 4 s i) 0 → (m : ℕ) (out : List ℕ) (o : ℕ)
     → sets (sets (sets (sets out o (bytes 4 (getD v 0 0))) (o + m) (bytes 4 (getD v 1 0))) (o + m + m) (bytes 4 (getD v 2 0))) (o + m + m + m)
     (bytes 4 (getD v 3 0))
-    ≡ tiled k s i m out o
+    ≡ tiled k m s i out o
 four-rows s small i k v e m out o =
     let t = columns k 4 4 s i in
     let b = columns-bytes s small k 4 4 i in

@@ -9,6 +9,6 @@ abbrev pub placed : ℕ → ℕ → ℕ → List ℕ → ℕ → List ℕ → �
 placed k m zero s i out o = out
 placed k m (suc c) s i out o = placed k m c s (i + 1) (sets out o (column k 4 s i)) (o + m)
 
--- the transpose of four rows of four bytes
-abbrev pub tiled : ℕ → List ℕ → ℕ → ℕ → List ℕ → ℕ → List ℕ
-tiled k s i m out o = placed k m 4 s i out o
+-- .. four of them: the transpose of four rows of four bytes
+abbrev pub tiled : ℕ → ℕ → List ℕ → ℕ → List ℕ → ℕ → List ℕ
+tiled k m s i out o = placed k m 4 s i out o

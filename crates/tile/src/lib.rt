@@ -1,37 +1,38 @@
 // The transpose of four rows of four bytes in lent memory. A row is read and written as one word, so that the compiler may take several tiles at a time.
 ghost use mathlib.Core.Path.{_≡_};
 ghost use mathlib.Core.List.{[], _∷_};
-ghost use Prim.Native.Nat.{_+_, _*_, _/_, _%_, _≤_};
+ghost use Prim.Native.Nat.{_+_, _*_, _≤_};
 ghost use lib.ListN.{length, getD};
 ghost use lib.Seq.{sets};
 ghost use Rattle.memory.specs.Bytes.{wordsAt, bytes, bytesOf};
 ghost use Rattle.shuffle.specs.Transposed.{columns, transposed};
+ghost use Rattle.tile.specs.Words.{lowHalves, highHalves, evenBytes, oddBytes};
 ghost use Rattle.tile.specs.Tile.{tiled};
 
 // The low halves of both words, that of `x` first.
 fn low(x: u32, y: u32) -> u32
-    ensures { λ r. ⌜ r ≡ x % 65536 + 65536 * (y % 65536) ⌝ }
+    ensures { λ r. ⌜ r ≡ lowHalves x y ⌝ }
 {
     x % 65536 + 65536 * (y % 65536)
 }
 
 // The high halves of both words, that of `x` first.
 fn high(x: u32, y: u32) -> u32
-    ensures { λ r. ⌜ r ≡ x / 65536 + 65536 * (y / 65536) ⌝ }
+    ensures { λ r. ⌜ r ≡ highHalves x y ⌝ }
 {
     x / 65536 + 65536 * (y / 65536)
 }
 
-// Bytes 0 and 2 of both words, in turn.
+// Bytes 0 and 2 of `x`, each with the same byte of `y` behind it.
 fn even(x: u32, y: u32) -> u32
-    ensures { λ r. ⌜ r ≡ x % 256 + 65536 * (x / 65536 % 256) + 256 * (y % 256 + 65536 * (y / 65536 % 256)) ⌝ }
+    ensures { λ r. ⌜ r ≡ evenBytes x y ⌝ }
 {
     x % 256 + 65536 * (x / 65536 % 256) + 256 * (y % 256 + 65536 * (y / 65536 % 256))
 }
 
-// Bytes 1 and 3 of both words, in turn.
+// Bytes 1 and 3 of `x`, each with the same byte of `y` behind it.
 fn odd(x: u32, y: u32) -> u32
-    ensures { λ r. ⌜ r ≡ x / 256 % 256 + 65536 * (x / 16777216) + 256 * (y / 256 % 256 + 65536 * (y / 16777216)) ⌝ }
+    ensures { λ r. ⌜ r ≡ oddBytes x y ⌝ }
 {
     x / 256 % 256 + 65536 * (x / 16777216) + 256 * (y / 256 % 256 + 65536 * (y / 16777216))
 }
@@ -86,7 +87,7 @@ fn store_rows(out: &mut [u8], o: usize, m: usize, v: [u32; 4])
 // Four columns of `s` from `i` on, where rows are `k` bytes apart, as rows of `out` from `o` on, `m` bytes apart.
 pub fn transpose_tile(s: &[u8], i: usize, k: usize, out: &mut [u8], o: usize, m: usize)
     requires { ⌜ (i + 3 * k + 4 ≤ length (now s)) × (o + 3 * m + 4 ≤ length (now out)) ⌝ }
-    ensures { λ _. ⌜ now (out .exit) ≡ tiled k (now (s .entry)) i m (now (out .entry)) o ⌝ }
+    ensures { λ _. ⌜ now (out .exit) ≡ tiled k m (now (s .entry)) i (now (out .entry)) o ⌝ }
 {
     store_rows(out, o, m, load_columns(s, i, k));
 }

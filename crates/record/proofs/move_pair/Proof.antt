@@ -2,7 +2,6 @@ use mathlib.Core.Path.{ap, _∙_}
 use Prim.Native.Nat.{_+_}
 use borrow.Author.Needs.{needs}
 use denote.Ref.{now}
-use native.Mathlib.Omega.{arith}
 use lib.Seq.{sets}
 use Rattle.record.proofs.Pairs.{pair-bytes}
 use Rattle.record.proofs.move_pair.Statement.{statement}

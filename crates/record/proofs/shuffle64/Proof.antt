@@ -57,4 +57,5 @@ pub shuffle64-spec : {M : Type 1} → statement M
 shuffle64-spec =
     tie.close
     (tie.spec
-    Inv-loop μ-loop loop-holds (λ c. search needs) transpose-tile-requires (λ c. search needs) (λ c. search needs) (λ c. search needs) transpose-tile-requires-2 (λ c. search needs) (λ c. search needs) loop-again same-length returns)
+    Inv-loop μ-loop loop-holds (λ c. search needs) transpose-tile-requires (λ c. search needs) (λ c. search needs) (λ c. search needs)
+    transpose-tile-requires-2 (λ c. search needs) (λ c. search needs) loop-again same-length returns)

@@ -7,8 +7,8 @@ use lib.ListN.{length, getD}
 use Rattle.memory.specs.Bytes.{bytes, Bytes}
 use Rattle.record.proofs.Moved.{Moved, plain, across, none-moved, next-words, unshuffled-as, unshuffle-all}
 use Rattle.record.proofs.Pairs.{nth-bytes}
-use Rattle.record.proofs.unshuffle32.Statement.{statement}
-use Rattle.record.proofs.unshuffle32.Tie as tie
+use Rattle.record.proofs.restore32.Statement.{statement}
+use Rattle.record.proofs.restore32.Tie as tie
 
 abbrev Inv-loop : tie.InvT-loop
 Inv-loop s out₀ x y i₀ out i = (i ≤ 64) × (length s ≡ 256) × (256 ≤ length out₀) × Moved 4 1 across (plain 4) s out₀ i 0 out
@@ -62,8 +62,8 @@ returns c =
     let l = c .before .loop in
     unshuffle-all 4 (now (a .s)) (now (a .out)) (l .inv .2) (l .i) (search needs) (l .out) (search needs) (l .inv .3)
 
-pub unshuffle32-spec : {M : Type 1} → statement M
-unshuffle32-spec =
+pub restore32-spec : {M : Type 1} → statement M
+restore32-spec =
     tie.close
     (tie.spec
     Inv-loop μ-loop (λ c κs. search needs) (λ c κs. search needs) loop-holds (λ c. search needs) (λ c. search needs) (λ c. search needs)

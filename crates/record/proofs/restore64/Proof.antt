@@ -5,8 +5,8 @@ use denote.Ref.{now}
 use native.Mathlib.Omega.{arith}
 use lib.ListN.{length}
 use Rattle.record.proofs.Moved.{Moved, plain, across, none-moved, next-words, unshuffled-by, unshuffle-all}
-use Rattle.record.proofs.unshuffle64.Statement.{statement}
-use Rattle.record.proofs.unshuffle64.Tie as tie
+use Rattle.record.proofs.restore64.Statement.{statement}
+use Rattle.record.proofs.restore64.Tie as tie
 
 abbrev Inv-loop : tie.InvT-loop
 Inv-loop s out₀ i₀ out i = (i ≤ 64) × (length s ≡ 512) × (512 ≤ length out₀) × Moved 8 1 across (plain 8) s out₀ i 0 out
@@ -30,12 +30,17 @@ requires-2 c κs =
 requires-3 : tie.Need-move-pair-requires-3 Inv-loop μ-loop
 requires-3 c κs =
     let l = c .before .before .before .before .before .before .before .before .before .before .loop in
-    (omega arith, omega (arith, l .inv .3 .size, c .before .before .before .move-pair2, c .before .before .before .before .before .before .before .move-pair))
+    let two = c .before .before .before in
+    let one = two .before .before .before .before in
+    (omega arith, omega (arith, l .inv .3 .size, two .move-pair2, one .move-pair))
 
 requires-4 : tie.Need-move-pair-requires-4 Inv-loop μ-loop
 requires-4 c κs =
     let l = c .before .before .before .before .before .before .before .before .before .before .before .before .before .before .loop in
-    (omega arith, omega (arith, l .inv .3 .size, c .before .before .before .move-pair3, c .before .before .before .before .before .before .before .move-pair2, c .before .before .before .before .before .before .before .before .before .before .before .move-pair))
+    let three = c .before .before .before in
+    let two = three .before .before .before .before in
+    let one = two .before .before .before .before in
+    (omega arith, omega (arith, l .inv .3 .size, three .move-pair3, two .move-pair2, one .move-pair))
 
 loop-again : tie.Need-loop-again Inv-loop μ-loop
 loop-again c =
@@ -67,8 +72,8 @@ returns c =
     let l = c .before .loop in
     unshuffle-all 8 (now (a .s)) (now (a .out)) (l .inv .2) (l .i) (search needs) (l .out) (search needs) (l .inv .3)
 
-pub unshuffle64-spec : {M : Type 1} → statement M
-unshuffle64-spec =
+pub restore64-spec : {M : Type 1} → statement M
+restore64-spec =
     tie.close
     (tie.spec
     Inv-loop μ-loop loop-holds (λ c. search needs) requires (λ c. search needs) (λ c. search needs) requires-2 (λ c. search needs)
