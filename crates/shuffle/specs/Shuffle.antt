@@ -14,7 +14,7 @@ use Rattle.shuffle.specs.Transposed.{transposed}
 abbrev pub recordLength : ℕ → ℕ
 recordLength w = 8 * w
 
--- .. and of eight words
+-- .. of eight words each
 abbrev pub recordWords : ℕ
 recordWords = 64
 

@@ -13,6 +13,6 @@ abbrev pub columns : ℕ → ℕ → ℕ → List ℕ → ℕ → List ℕ
 columns m n zero s i = []
 columns m n (suc c) s i = column m n s i ++ columns m n c s (i + 1)
 
--- of a matrix of n rows and m columns
+-- the transpose of a matrix of n rows and m columns: all its columns
 unfoldable pub transposed : ℕ → ℕ → List ℕ → List ℕ
 transposed n m s = columns m n m s 0
