@@ -66,8 +66,8 @@ fn row_pairs(s: &[u8], i: usize) -> [u16; 64]
     r
 }
 
-// The shuffled record `s` of 32-bit words, as it was, to the start of `out`. Pairs of rows go through arrays, which the compiler keeps in registers, so that it
-// takes eight words at a time.
+// The shuffled record `s` of 32-bit words, as it was, to the start of `out`. Pairs of rows go through arrays, which the compiler keeps in registers but for a few, so
+// that it takes eight words at a time.
 pub fn restore32(s: &[u8], out: &mut [u8])
     requires { ⌜ (length (now s) ≡ 256) × (256 ≤ length (now out)) ⌝ }
     ensures { λ _. ⌜ now (out .exit) ≡ unshuffledRecord 32 (now (s .entry)) ++ drop 256 (now (out .entry)) ⌝ }

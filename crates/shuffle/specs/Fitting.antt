@@ -1,5 +1,5 @@
--- What both calls answer fits the number that C receives, a refusal with bit 63, which therefore tells the answer (`NumbersInjective`, crate answer), for
--- fewer than 2^63 bytes, as each slice has. The statement; proofs/Fitting.antt shows it.
+-- What both calls answer fits the number that C receives, where a refusal has bit 63, so that the number tells the answer (`NumbersInjective`, crate
+-- answer). Asked: fewer than 2^63 bytes, as each slice has. The statement; proofs/Fitting.antt shows it.
 use Prim.Native.Nat.{ℕ, _^_, _<_}
 use Rattle.answer.specs.Injective.{Fits}
 use Rattle.shuffle.specs.Shuffle.{recordsAnswer}

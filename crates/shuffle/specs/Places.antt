@@ -12,7 +12,7 @@ use Rattle.shuffle.specs.Shuffle.{recordLength, recordWords, recordsAnsw
 abbrev pub RecordsAreWords : Type 0
 RecordsAreWords = (w : ℕ) → knownWidth w ≡ true → recordWords * (w / 8) ≡ recordLength w
 
--- Byte j of word i of record r stands at i * (w / 8) + j of that record, and shuffled at j * 64 + i
+-- Byte j of word i of record r stands at i * (w / 8) + j of that record, and shuffled at j * 64 + i, 64 being `recordWords`
 pub record ByPlace (w : ℕ) (s out : List ℕ) : Type 0 where
   pub shuffle : (r i j : ℕ) → r < length s / recordLength w → i < recordWords → j < w / 8
       → getD (shuffleOut w s out) (r * recordLength w + (j * 64 + i)) 0 ≡ getD s (r * recordLength w + (i * (w / 8) + j)) 0

@@ -1,5 +1,5 @@
--- Document 02, Paper 13, in its words: what a success writes, and that either way after the other, at one width, returns the bytes given. The statements;
--- proofs/RoundTrip.antt shows them.
+-- Document 02, Paper 13: what a success writes, no records, records cut between two of them, and that either way after the other, at one width, returns the
+-- bytes given. The statements; proofs/RoundTrip.antt shows them.
 use mathlib.Core.Path.{_≡_}
 use mathlib.Core.Bool.{true}
 use mathlib.Core.List.{List, [], _++_}

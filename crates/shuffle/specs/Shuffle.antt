@@ -10,7 +10,7 @@ use Rattle.answer.specs.Refuse.{unless, outcome}
 use Rattle.quasigroup.specs.Tables.{knownWidth}
 use Rattle.shuffle.specs.Transposed.{transposed}
 
--- a record is eight vectors of w bytes
+-- a record, as Paper 10 has it, is eight vectors of w bytes
 abbrev pub recordLength : ℕ → ℕ
 recordLength w = 8 * w
 

@@ -55,12 +55,12 @@ fn restore_records(width: u32, records: &[u8], out: &mut [u8])
     requires { let s = now records in ⌜ (knownWidth width ≡ true) × (length s % recordLength width ≡ 0) × (length s ≤ length (now out)) ⌝ }
     ensures { λ _. let s = now (records .entry) in ⌜ now (out .exit) ≡ unshuffled width s ++ drop (length s) (now (out .entry)) ⌝ }
 {
-    let n = 8 * (width as usize);
-    let count = records.len() / n;
+    let size = 8 * (width as usize);
+    let count = records.len() / size;
     let mut i = 0;
     while i < count {
-        let from = i * n;
-        let to = from + n;
+        let from = i * size;
+        let to = from + size;
         restore_record(width, &records[from..to], &mut out[from..]);
         i += 1;
     }

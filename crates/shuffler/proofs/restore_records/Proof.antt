@@ -9,10 +9,10 @@ use Rattle.shuffler.proofs.restore_records.Statement.{statement}
 use Rattle.shuffler.proofs.restore_records.Tie as tie
 
 abbrev Inv-loop : tie.InvT-loop
-Inv-loop width records out₀ n count i₀ out i = Progress unshuffledRecord width records out₀ n count i out
+Inv-loop width records out₀ size count i₀ out i = Progress unshuffledRecord width records out₀ size count i out
 
 abbrev μ-loop : tie.MeasureT-loop
-μ-loop width records out₀ n count i₀ out i = count - i
+μ-loop width records out₀ size count i₀ out i = count - i
 
 div-count : tie.Need-div-count Inv-loop μ-loop
 div-count c = sized (c .before .before .args .width) (c .before .before .pre .0) .some
