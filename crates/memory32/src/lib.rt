@@ -14,7 +14,7 @@ fn byte(x: u8) -> u32
 }
 
 // The word whose four bytes stand at `at`, lowest byte first.
-pub fn load(s: &[u8], at: usize) -> u32
+fn load(s: &[u8], at: usize) -> u32
     requires { ⌜ at + 4 ≤ length (now s) ⌝ }
     ensures { λ r. ⌜ r ≡ wordAt 4 (now (s .entry)) at ⌝ }
 {
@@ -42,7 +42,7 @@ pub fn load_vector(s: &[u8]) -> [u32; 8]
 }
 
 // The four bytes of `x` at `at`, lowest byte first.
-pub fn store(out: &mut [u8], at: usize, x: u32)
+fn store(out: &mut [u8], at: usize, x: u32)
     requires { ⌜ at + 4 ≤ length (now out) ⌝ }
     ensures { λ _. ⌜ now (out .exit) ≡ sets (now (out .entry)) at (bytes 4 x) ⌝ }
 {

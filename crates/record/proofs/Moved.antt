@@ -1,27 +1,26 @@
--- A record of 64 words of k bytes each, moved a few words at a time, out by tiles and back by pairs of bytes: what stands where on the way, and at the end.
+-- A record of 64 words of k bytes each, moved a tile of q words at a time: what stands where on the way, and at the end.
 use mathlib.Core.Path.{_≡_, refl, sym, ap, ap₂, subst, _∙_}
-use mathlib.Core.List.{List, [], _∷_, _++_}
-use Prim.Native.Nat.{ℕ, _+_, _*_, _-_, _≤_, _<_}
-use native.Mathlib.Nat.{add-mul, suc-mul, mul-comm, mul-le-mul-right}
+use mathlib.Core.List.{List, _++_}
+use Prim.Native.Nat.{ℕ, zero, suc, _+_, _*_, _-_, _≤_, _<_}
+use native.Mathlib.Nat.{zero-mul, suc-mul, add-mul, mul-add, mul-comm, mul-le-mul-left, mul-le-mul-right}
 use native.Mathlib.Omega.{arith}
-use borrow.Author.Tests.{eqb-true, eqb-false, ltb-true, ltb-false}
-use lib.Dec.{eqb, ltb, lit≤}
+use borrow.Author.Tests.{ltb-true, ltb-false}
+use lib.Dec.{ltb, lit≤}
 use lib.ListN.{length, getD, take, drop, take-append-drop, length-drop}
-use lib.Seq.{sets, length-sets, length-take-le, getD-take, getD-drop, ext-getD}
+use lib.Seq.{length-take-le, getD-take, getD-drop, ext-getD}
 use Rattle.answer.proofs.Tests.{decide}
-use Rattle.memory.proofs.Lists.{sets-other, sets-at}
 use Rattle.shuffle.specs.Transposed.{transposed}
 use Rattle.shuffle.proofs.Transposed.{transposed-length, transposed-at, by-rows}
-use Rattle.tile.specs.Tile.{tiled}
-use Rattle.tile.proofs.Placed.{tiled-length, tiled-other, tiled-at}
+use Rattle.tile.specs.Copy.{Inside, zeros, rowsCopy}
+use Rattle.tile.proofs.Copy.{row-below, columns-apart, rows-length, rows-other, rows-at, some-rows, in-tile, zeros-length}
+use Rattle.record.specs.Tiled.{Tiled}
 
--- The bytes of the first g words are moved and the first h bytes of the next q, each from its place in s to its place in out; and nothing behind the record
--- has changed
-pub record Moved (k q : ℕ) (from to : ℕ → ℕ → ℕ) (s old : List ℕ) (g h : ℕ) (out : List ℕ) : Type 0 where
-  pub size : length out ≡ length old
-  pub words : (i j : ℕ) → i < g → j < k → getD out (to i j) 0 ≡ getD s (from i j) 0
-  pub bytes : (i j : ℕ) → g ≤ i → i < g + q → j < h → getD out (to i j) 0 ≡ getD s (from i j) 0
-  pub behind : (p : ℕ) → 64 * k ≤ p → getD out p 0 ≡ getD old p 0
+-- records of both widths
+pub tiled-32 : Tiled 4 32
+tiled-32 = record { size = refl; count = 2; whole = refl }
+
+pub tiled-64 : Tiled 8 16
+tiled-64 = record { size = refl; count = 4; whole = refl }
 
 -- where byte j of word i stands in a record, and in a shuffled one
 abbrev pub plain : ℕ → ℕ → ℕ → ℕ
@@ -30,112 +29,159 @@ plain k i j = i * k + j
 abbrev pub across : ℕ → ℕ → ℕ
 across i j = j * 64 + i
 
-module _ (k q : ℕ) (from to : ℕ → ℕ → ℕ) (s old : List ℕ) where
-  pub none-moved : Moved k q from to s old 0 0 old
-  none-moved = record { size = refl; words = λ i j h g. absurd (omega arith); bytes = λ i j h g b. absurd (omega arith); behind = λ p h. refl }
+-- The bytes of the first g words are moved, each from its place in s to its place in out; whole tiles are left, and nothing behind the record has changed
+pub record Moved (k q : ℕ) (from to : ℕ → ℕ → ℕ) (s old : List ℕ) (g : ℕ) (out : List ℕ) : Type 0 where
+  pub tile : k * q ≡ 128
+  pub given : length s ≡ 64 * k
+  pub room : 64 * k ≤ length old
+  pub left : ℕ
+  pub reach : g + left * q ≡ 64
+  pub size : length out ≡ length old
+  pub words : (i j : ℕ) → i < g → j < k → getD out (to i j) 0 ≡ getD s (from i j) 0
+  pub behind : (p : ℕ) → 64 * k ≤ p → getD out p 0 ≡ getD old p 0
 
-  -- words whose bytes are all moved
-  pub next-words : (g : ℕ) (out : List ℕ) → Moved k q from to s old g k out → Moved k q from to s old (g + q) 0 out
-  next-words g out m =
+-- ---- one row of a whole tile
+
+module _ (s : List ℕ) (i : ℕ) (out : List ℕ) (o : ℕ) where
+  abbrev oneRow : List ℕ
+  oneRow = rowsCopy 1 128 s i 128 out o 128
+
+  row-at : o + 128 ≤ length out → (p : ℕ) → p < 128 → getD oneRow (o + p) 0 ≡ getD s (i + p) 0
+  row-at room p h =
+      let a : o + p ≡ o + p + 0 * 128 = omega arith in
+      let b : i + p + 0 * 128 ≡ i + p = omega arith in
+      ap (λ (n : ℕ). getD oneRow n 0) a ∙ rows-at 1 s i 128 out o 128 128 (lit≤ tt) (λ j g. omega arith) p 0 h (lit≤ tt) ∙ ap (λ (n : ℕ). getD s n 0) b
+
+  row-other : (p : ℕ) → ((b : ℕ) → b < 128 → p ≡ o + b → ⊥) → getD oneRow p 0 ≡ getD out p 0
+  row-other p h = rows-other 1 s i 128 out o 128 128 p (λ b j x y z. h b x (omega arith))
+
+-- .. loaded
+tile-at : (s : List ℕ) (i : ℕ) (x : List ℕ) → x ≡ rowsCopy 1 128 s i 128 (zeros 128) 0 128 → (p : ℕ) → p < 128 → getD x p 0 ≡ getD s (i + p) 0
+tile-at s i x e p h =
+    let z : p ≡ 0 + p = omega arith in
+    ap₂ {C = ℕ} (λ (l : List ℕ) (n : ℕ). getD l n 0) e z ∙ row-at s i (zeros 128) 0 (omega (arith, zeros-length 128)) p h
+
+-- ---- a tile more
+
+module _ {k q : ℕ} {from to : ℕ → ℕ → ℕ} {s old : List ℕ} where
+  pub none-moved : Tiled k q → length s ≡ 64 * k → 64 * k ≤ length old → Moved k q from to s old 0 old
+  none-moved t given room =
       record {
-        size = m .size;
-        words = λ i j h b.
-            decide (ltb i g) (λ t. m .words i j (ltb-true i g t) b) (λ f. m .bytes i j (ltb-false i g f) h b);
-        bytes = λ i j h b n. absurd (omega arith);
-        behind = m .behind;
+        tile = t .size;
+        given = given;
+        room = room;
+        left = t .count;
+        reach = omega (arith, t .whole);
+        size = refl;
+        words = λ i j h g. absurd (omega arith);
+        behind = λ p h. refl;
       }
 
--- ---- a tile
+  module _ {g : ℕ} {out : List ℕ} (m : Moved k q from to s old g out) where
+    fewer : (n : ℕ) → g + n * q ≡ 64 → g < 64 → (l : ℕ) × (g + q + l * q ≡ 64)
+    fewer zero e h = absurd (omega (arith, zero-mul q))
+    fewer (suc l) e h = (l, omega (arith, suc-mul l q))
 
-module _ (k : ℕ) (s old : List ℕ) (room : 64 * k ≤ length old) (g h : ℕ) (inside : g + 4 ≤ 64) (bound : h + 4 ≤ k) (out : List ℕ) where
-  shuffle-tile : Moved k 4 (plain k) across s old g h out → Moved k 4 (plain k) across s old g (h + 4) (tiled k 64 s (g * k + h) out (h * 64 + g))
-  shuffle-tile m =
-      let o = h * 64 + g in
-      record {
-        size = tiled-length k 64 s (g * k + h) out o ∙ m .size;
-        words = λ i j x y. tiled-other k 64 s (g * k + h) out o (across i j) (λ a b c d. omega arith) ∙ m .words i j x y;
-        bytes = λ i j x y z.
-            decide (ltb j h)
-            (λ t. tiled-other k 64 s (g * k + h) out o (across i j) (λ a b c d. omega (arith, ltb-true j h t)) ∙ m .bytes i j x y (ltb-true j h t))
-            (λ f.
-            let n = ltb-false j h f in
-            let e : j * 64 + i ≡ o + (j - h) * 64 + (i - g) = omega (arith, n) in
-            let w : i - g + g ≡ i = omega arith in
-            let d : (i - g) * k + (g * k + h + (j - h)) ≡ i * k + j = omega (arith, n, add-mul (i - g) g k, ap (λ (u : ℕ). u * k) w) in
-            ap (λ (p : ℕ). getD (tiled k 64 s (g * k + h) out o) p 0) e
-            ∙ tiled-at k 64 s (g * k + h) out o (lit≤ tt) (λ a b. omega (arith, m .size, room)) (j - h) (i - g) (omega (arith, n)) (omega arith)
-            ∙ ap (λ (p : ℕ). getD s p 0) d);
-        behind = λ p x. tiled-other k 64 s (g * k + h) out o p (λ a b c d. omega arith) ∙ m .behind p x;
-      }
+    pub tile-inside : g < 64 → g + q ≤ 64
+    tile-inside h = let f = fewer (m .left) (m .reach) h in omega (arith, f .1)
 
-  -- .. whose places are given by numbers of their own
-  pub shuffled-by : (i o : ℕ) → i ≡ g * k + h → o ≡ h * 64 + g → (new : List ℕ) → new ≡ tiled k 64 s i out o
-      → Moved k 4 (plain k) across s old g h out → Moved k 4 (plain k) across s old g (h + 4) new
-  shuffled-by i o ei eo new e m =
-      subst (Moved k 4 (plain k) across s old g (h + 4)) (sym (e ∙ ap₂ {C = List ℕ} (λ x y. tiled k 64 s x out y) ei eo)) (shuffle-tile m)
+    pub some-words : 0 < q
+    some-words = some-rows q k (mul-comm q k ∙ m .tile)
 
--- ---- two bytes of a word
+    -- .. in bytes
+    pub tile-ends : g < 64 → k * g + 128 ≤ 64 * k
+    tile-ends h = omega (arith, mul-le-mul-left {m = g + q} {n = 64} k (tile-inside h), mul-add k g q, mul-comm k 64, m .tile)
 
--- the bytes of word i end before those of a later word a begin
-row-below : (k i a : ℕ) → i < a → i * k + k ≤ a * k
-row-below k i a x = omega (arith, mul-le-mul-right {m = 1 + i} {n = a} k (omega arith), suc-mul i k)
+    -- rows of the record
+    pub rows-inside : g < 64 → (n : ℕ) → 64 * k ≤ n → Inside k q g 64 n
+    rows-inside h n r j f = omega (arith, tile-inside h, row-below 64 j k f)
 
-module _ (k : ℕ) (s old : List ℕ) (room : 64 * k ≤ length old) (g h : ℕ) (inside : g < 64) (bound : h + 2 ≤ k) (out : List ℕ) where
-  -- bytes h and h + 1 of word g, from one row and the next
-  abbrev two : List ℕ
-  two = getD s (h * 64 + g) 0 ∷ getD s (h * 64 + g + 64) 0 ∷ []
+    pub row-inside : g < 64 → (n : ℕ) → 64 * k ≤ n → Inside 1 128 (k * g) 128 n
+    row-inside h n r j f = omega (arith, tile-ends h)
 
-  two-at : (j : ℕ) → h ≤ j → j < h + 2 → getD two (j - h) 0 ≡ getD s (across g j) 0
-  two-at j x y =
-      decide (eqb j h)
-      (λ t.
-      let e = eqb-true j h t in
-      let a : j - h ≡ 0 = omega arith in
-      let b : h * 64 + g ≡ j * 64 + g = omega arith in
-      ap (λ (p : ℕ). getD two p 0) a ∙ ap (λ (p : ℕ). getD s p 0) b)
-      (λ f.
-      let a : j - h ≡ 1 = omega (arith, eqb-false j h f) in
-      let b : h * 64 + g + 64 ≡ j * 64 + g = omega (arith, a) in
-      ap (λ (p : ℕ). getD two p 0) a ∙ ap (λ (p : ℕ). getD s p 0) b)
+    pub byte-inside : (b j : ℕ) → b < q → j < k → b * k + j < 128
+    byte-inside b j f e = omega (arith, row-below k b q f, mul-comm k q, m .tile)
 
-  unshuffle-pair : Moved k 1 across (plain k) s old g h out → Moved k 1 across (plain k) s old g (h + 2) (sets out (g * k + h) two)
-  unshuffle-pair m =
-      let o = g * k + h in
-      let fits = row-below k g 64 inside in
-      record {
-        size = length-sets out o two ∙ m .size;
-        words = λ i j x y. sets-other two out o (plain k i j) (λ a b. omega (arith, row-below k i g x)) ∙ m .words i j x y;
-        bytes = λ i j x y z.
-            let e : i ≡ g = omega arith in
-            subst (λ (u : ℕ). getD (sets out o two) (plain k u j) 0 ≡ getD s (across u j) 0) (sym e)
-            (decide (ltb j h)
-            (λ t. sets-other two out o (plain k g j) (λ a b. omega (arith, ltb-true j h t)) ∙ m .bytes g j (omega arith) (omega arith) (ltb-true j h t))
-            (λ f.
-            let n = ltb-false j h f in
-            let d : plain k g j ≡ o + (j - h) = omega (arith, n) in
-            ap (λ (p : ℕ). getD (sets out o two) p 0) d ∙ sets-at two out o (j - h) (omega (arith, m .size, room, fits)) (omega (arith, n)) ∙ two-at j n z));
-        behind = λ p x. sets-other two out o p (λ a b. omega (arith, fits)) ∙ m .behind p x;
-      }
+    -- what was moved stays, and a tile's bytes are moved
+    tile-more : (h : g < 64) (last : List ℕ) → length last ≡ length out
+        → ((i j : ℕ) → i < g → j < k → getD last (to i j) 0 ≡ getD out (to i j) 0)
+        → ((b j : ℕ) → b < q → j < k → getD last (to (g + b) j) 0 ≡ getD s (from (g + b) j) 0)
+        → ((p : ℕ) → 64 * k ≤ p → getD last p 0 ≡ getD out p 0) → Moved k q from to s old (g + q) last
+    tile-more h last e stay new rest =
+        let f = fewer (m .left) (m .reach) h in
+        record {
+          tile = m .tile;
+          given = m .given;
+          room = m .room;
+          left = f .0;
+          reach = f .1;
+          size = e ∙ m .size;
+          words = λ i j x y.
+              decide (ltb i g) (λ t. stay i j (ltb-true i g t) y ∙ m .words i j (ltb-true i g t) y)
+              (λ t.
+              let n = ltb-false i g t in
+              let u : g + (i - g) ≡ i = omega (arith, n) in
+              subst (λ (w : ℕ). getD last (to w j) 0 ≡ getD s (from w j) 0) u (new (i - g) j (omega (arith, n)) y));
+          behind = λ p x. rest p x ∙ m .behind p x;
+        }
 
-  -- .. whose places are given by numbers of their own
-  pub unshuffled-by : (i o : ℕ) → i ≡ h * 64 + g → o ≡ g * k + h → (new : List ℕ) → new ≡ sets out o (getD s i 0 ∷ getD s (i + 64) 0 ∷ [])
-      → Moved k 1 across (plain k) s old g h out → Moved k 1 across (plain k) s old g (h + 2) new
-  unshuffled-by i o ei eo new e m =
-      subst (Moved k 1 across (plain k) s old g (h + 2))
-      (sym (e ∙ ap₂ {C = List ℕ} (λ x y. sets out y (getD s x 0 ∷ getD s (x + 64) 0 ∷ [])) ei eo)) (unshuffle-pair m)
+-- ---- out: a row of a tile is words, each of its columns goes to a row of the record
 
-  -- .. as the bytes v of a number
-  pub unshuffled-as : (v : List ℕ) (i o : ℕ) → v ≡ getD s i 0 ∷ getD s (i + 64) 0 ∷ [] → i ≡ h * 64 + g → o ≡ g * k + h → (new : List ℕ)
-      → new ≡ sets out o v → Moved k 1 across (plain k) s old g h out → Moved k 1 across (plain k) s old g (h + 2) new
-  unshuffled-as v i o ev ei eo new e m = unshuffled-by i o ei eo new (e ∙ ap (sets out o) ev) m
+module _ {k q : ℕ} {s old : List ℕ} {g : ℕ} {out : List ℕ} (m : Moved k q (plain k) across s old g out) (h : g < 64) (x y last : List ℕ)
+    (loaded : x ≡ rowsCopy 1 128 s (k * g) 128 (zeros 128) 0 128) (turned : y ≡ transposed q k x) (stored : last ≡ rowsCopy k q y 0 q out g 64) where
+  out-at : (b j : ℕ) → b < q → j < k → getD last (across (g + b) j) 0 ≡ getD s (plain k (g + b) j) 0
+  out-at b j f e =
+      let p : j * 64 + (g + b) ≡ g + b + j * 64 = omega arith in
+      let v : 0 + b + j * q ≡ j * q + b = omega arith in
+      let w : k * g + (b * k + j) ≡ (g + b) * k + j = omega (arith, add-mul g b k, mul-comm k g) in
+      ap₂ {C = ℕ} (λ (l : List ℕ) (n : ℕ). getD l n 0) stored p
+      ∙ rows-at k y 0 q out g 64 q (omega (arith, tile-inside m h)) (rows-inside m h (length out) (omega (arith, m .size, m .room))) b j f e
+      ∙ ap₂ {C = ℕ} (λ (l : List ℕ) (n : ℕ). getD l n 0) turned v ∙ transposed-at q k x j b e f
+      ∙ tile-at s (k * g) x loaded (b * k + j) (byte-inside m b j f e) ∙ ap (λ (n : ℕ). getD s n 0) w
+
+  pub shuffle-more : Moved k q (plain k) across s old (g + q) last
+  shuffle-more =
+      let other = rows-other k y 0 q out g 64 q in
+      let in-row = tile-inside m h in
+      tile-more m h last (ap length stored ∙ rows-length k y 0 q out g 64 q)
+      (λ i j f e. ap (λ (l : List ℕ). getD l (across i j) 0) stored
+      ∙ other (across i j) (λ b a u v w. columns-apart 64 i (g + b) j a (omega arith) (omega arith) (omega arith) (omega arith)))
+      out-at
+      (λ p f. ap (λ (l : List ℕ). getD l p 0) stored ∙ other p (λ b a u v w. omega (arith, row-below 64 a k v)))
+
+-- ---- back: a row of a tile is of a row of the record, each of its columns is a word
+
+module _ {k q : ℕ} {s old : List ℕ} {g : ℕ} {out : List ℕ} (m : Moved k q across (plain k) s old g out) (h : g < 64) (x y last : List ℕ)
+    (loaded : x ≡ rowsCopy k q s g 64 (zeros 128) 0 q) (turned : y ≡ transposed k q x) (stored : last ≡ rowsCopy 1 128 y 0 128 out (k * g) 128) where
+  back-at : (b j : ℕ) → b < q → j < k → getD last (plain k (g + b) j) 0 ≡ getD s (across (g + b) j) 0
+  back-at b j f e =
+      let p : (g + b) * k + j ≡ k * g + (b * k + j) = omega (arith, add-mul g b k, mul-comm k g) in
+      let u : 0 + (b * k + j) ≡ b * k + j = omega arith in
+      let v : j * q + b ≡ 0 + b + j * q = omega arith in
+      let w : g + b + j * 64 ≡ j * 64 + (g + b) = omega arith in
+      ap₂ {C = ℕ} (λ (l : List ℕ) (n : ℕ). getD l n 0) stored p
+      ∙ row-at y 0 out (k * g) (omega (arith, tile-ends m h, m .size, m .room)) (b * k + j) (byte-inside m b j f e)
+      ∙ ap₂ {C = ℕ} (λ (l : List ℕ) (n : ℕ). getD l n 0) turned u ∙ transposed-at k q x b j f e
+      ∙ ap₂ {C = ℕ} (λ (l : List ℕ) (n : ℕ). getD l n 0) loaded v
+      ∙ rows-at k s g 64 (zeros 128) 0 q q (omega arith) (subst (Inside k q 0 q) (sym (zeros-length 128)) (in-tile k q (m .tile))) b j f e
+      ∙ ap (λ (n : ℕ). getD s n 0) w
+
+  pub restore-more : Moved k q across (plain k) s old (g + q) last
+  restore-more =
+      let other = row-other y 0 out (k * g) in
+      tile-more m h last (ap length stored ∙ rows-length 1 y 0 128 out (k * g) 128 128)
+      (λ i j f e. ap (λ (l : List ℕ). getD l (plain k i j) 0) stored
+      ∙ other (plain k i j) (λ b u w. omega (arith, row-below k i g f, mul-comm k g)))
+      back-at
+      (λ p f. ap (λ (l : List ℕ). getD l p 0) stored ∙ other p (λ b u w. omega (arith, tile-ends m h)))
 
 -- ---- all words
 
-module _ (k : ℕ) (s old : List ℕ) (room : 64 * k ≤ length old) (g : ℕ) (end : 64 ≤ g) (out : List ℕ) where
+module _ {k q : ℕ} {s old : List ℕ} {g : ℕ} {out : List ℕ} (end : 64 ≤ g) where
   -- the record's bytes, and those behind it
-  module _ (q : ℕ) (from to : ℕ → ℕ → ℕ) (m : Moved k q from to s old g 0 out) where
+  module _ {from to : ℕ → ℕ → ℕ} (m : Moved k q from to s old g out) where
     first-length : length (take (64 * k) out) ≡ 64 * k
-    first-length = length-take-le (64 * k) out (omega (arith, m .size))
+    first-length = length-take-le (64 * k) out (omega (arith, m .size, m .room))
 
     rest : drop (64 * k) out ≡ drop (64 * k) old
     rest =
@@ -145,15 +191,15 @@ module _ (k : ℕ) (s old : List ℕ) (room : 64 * k ≤ length old) (g : ℕ) (
     all : (l : List ℕ) → take (64 * k) out ≡ l → out ≡ l ++ drop (64 * k) old
     all l e = sym (take-append-drop (64 * k) out) ∙ ap₂ {C = List ℕ} (λ x y. x ++ y) e rest
 
-  pub shuffle-all : Moved k 4 (plain k) across s old g 0 out → out ≡ transposed 64 k s ++ drop (64 * k) old
+  pub shuffle-all : Moved k q (plain k) across s old g out → out ≡ transposed 64 k s ++ drop (64 * k) old
   shuffle-all m =
-      all 4 (plain k) across m (transposed 64 k s)
-      (by-rows 64 k (lit≤ tt) (take (64 * k) out) (transposed 64 k s) (first-length 4 (plain k) across m ∙ mul-comm 64 k) (transposed-length 64 k s)
+      all m (transposed 64 k s)
+      (by-rows 64 k (lit≤ tt) (take (64 * k) out) (transposed 64 k s) (first-length m ∙ mul-comm 64 k) (transposed-length 64 k s)
       (λ j i h b. getD-take (64 * k) out (j * 64 + i) 0 (omega arith) ∙ m .words i j (omega arith) h ∙ sym (transposed-at 64 k s j i h b)))
 
-  pub unshuffle-all : 0 < k → Moved k 1 across (plain k) s old g 0 out → out ≡ transposed k 64 s ++ drop (64 * k) old
-  unshuffle-all positive m =
-      all 1 across (plain k) m (transposed k 64 s)
-      (by-rows k 64 positive (take (64 * k) out) (transposed k 64 s) (first-length 1 across (plain k) m) (transposed-length k 64 s)
+  pub restore-all : Moved k q across (plain k) s old g out → out ≡ transposed k 64 s ++ drop (64 * k) old
+  restore-all m =
+      all m (transposed k 64 s)
+      (by-rows k 64 (some-rows k q (m .tile)) (take (64 * k) out) (transposed k 64 s) (first-length m) (transposed-length k 64 s)
       (λ i j h b. getD-take (64 * k) out (i * k + j) 0 (omega (arith, mul-le-mul-right {m = 1 + i} {n = 64} k (omega arith), suc-mul i k))
       ∙ m .words i j (omega arith) b ∙ sym (transposed-at k 64 s i j h b)))

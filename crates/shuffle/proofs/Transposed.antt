@@ -8,16 +8,16 @@ use lib.ListN.{length, getD, length-append, List·getD-append}
 use lib.Seq.{getD-append-add, ext-getD}
 use Rattle.shuffle.specs.Transposed.{column, columns, transposed}
 
-pub column-length : (m n : ℕ) (s : List ℕ) (i : ℕ) → length (column m n s i) ≡ n
+column-length : (m n : ℕ) (s : List ℕ) (i : ℕ) → length (column m n s i) ≡ n
 column-length m zero s i = refl
 column-length m (suc n) s i = ap suc (column-length m n s (i + m))
 
-pub column-at : (m n : ℕ) (s : List ℕ) (i b : ℕ) → b < n → getD (column m n s i) b 0 ≡ getD s (b * m + i) 0
+column-at : (m n : ℕ) (s : List ℕ) (i b : ℕ) → b < n → getD (column m n s i) b 0 ≡ getD s (b * m + i) 0
 column-at m zero s i b h = absurd (omega arith)
 column-at m (suc n) s i zero h = ap (λ (j : ℕ). getD s j 0) (omega (arith, zero-mul m))
 column-at m (suc n) s i (suc b) h = column-at m n s (i + m) b (omega arith) ∙ ap (λ (j : ℕ). getD s j 0) (omega (arith, suc-mul b m))
 
-pub columns-length : (m n c : ℕ) (s : List ℕ) (i : ℕ) → length (columns m n c s i) ≡ c * n
+columns-length : (m n c : ℕ) (s : List ℕ) (i : ℕ) → length (columns m n c s i) ≡ c * n
 columns-length m n zero s i = sym (zero-mul n)
 columns-length m n (suc c) s i =
     length-append (column m n s i) (columns m n c s (i + 1))

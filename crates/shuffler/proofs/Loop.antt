@@ -20,6 +20,10 @@ pub at-width : (f : ℕ → List ℕ → List ℕ) (w v : ℕ) → w ≡ v → (
     → last ≡ f w s ++ drop (recordLength w) out
 at-width f w v e s out h = h ∙ ap (λ (u : ℕ). f u s ++ drop (recordLength u) out) (sym e)
 
+-- .. and what that asks, n bytes being given and m lent
+pub asked-at : (w v : ℕ) → w ≡ v → {n m : ℕ} → n ≡ recordLength w → recordLength w ≤ m → (n ≡ recordLength v) × (recordLength v ≤ m)
+asked-at w v e h g = (omega arith, omega arith)
+
 -- i of `count` records of n bytes are written, over the output `old`
 pub record Progress (f : ℕ → List ℕ → List ℕ) (w : ℕ) (s old : List ℕ) (n count i : ℕ) (out : List ℕ) : Type 0 where
   pub known : knownWidth w ≡ true

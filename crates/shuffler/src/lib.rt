@@ -16,10 +16,10 @@ fn shuffle_record(width: u32, s: &[u8], out: &mut [u8])
     ensures { λ _. ⌜ now (out .exit) ≡ shuffledRecord width (now (s .entry)) ++ drop (recordLength width) (now (out .entry)) ⌝ }
 {
     if width == 32 {
-        record::shuffle32(s, out);
+        record::shuffle(s, out, 4, 32, 5);
         return;
     }
-    record::shuffle64(s, out);
+    record::shuffle(s, out, 8, 16, 4);
 }
 
 // The shuffled record `s`, as it was, to the start of `out`.
@@ -28,10 +28,10 @@ fn restore_record(width: u32, s: &[u8], out: &mut [u8])
     ensures { λ _. ⌜ now (out .exit) ≡ unshuffledRecord width (now (s .entry)) ++ drop (recordLength width) (now (out .entry)) ⌝ }
 {
     if width == 32 {
-        record::restore32(s, out);
+        record::restore(s, out, 4, 32, 2);
         return;
     }
-    record::restore64(s, out);
+    record::restore(s, out, 8, 16, 3);
 }
 
 // Each record, shuffled, to its place in `out`.

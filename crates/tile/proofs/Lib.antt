@@ -1,2 +1,2 @@
-pub mod Words
-pub mod Placed
+pub mod Copy
+pub mod Interleaved

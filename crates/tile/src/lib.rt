@@ -1,93 +1,94 @@
-// The transpose of four rows of four bytes in lent memory. A row is read and written as one word, so that the compiler may take several tiles at a time.
+// A tile: 128 bytes of a record, by value. It is loaded from rows that stand apart, transposed, and stored to rows that stand apart. Rows
+// are moved side by side, a byte of each and then the next, so that the compiler takes sixteen bytes of every row together.
 ghost use mathlib.Core.Path.{_≡_};
-ghost use mathlib.Core.List.{[], _∷_};
-ghost use Prim.Native.Nat.{_+_, _*_, _≤_};
-ghost use lib.ListN.{length, getD};
-ghost use lib.Seq.{sets};
-ghost use Rattle.memory.specs.Bytes.{wordsAt, bytes, bytesOf};
-ghost use Rattle.shuffle.specs.Transposed.{columns, transposed};
-ghost use Rattle.tile.specs.Words.{lowHalves, highHalves, evenBytes, oddBytes};
-ghost use Rattle.tile.specs.Tile.{tiled};
+ghost use Prim.Native.Nat.{_*_, _-_, _^_, _≤_, _<_};
+ghost use lib.ListN.{length};
+ghost use Rattle.shuffle.specs.Transposed.{transposed};
+ghost use Rattle.tile.specs.Copy.{Inside, Clear, zeros, stridedCopy, rowsCopy};
 
-// The low halves of both words, that of `x` first.
-fn low(x: u32, y: u32) -> u32
-    ensures { λ r. ⌜ r ≡ lowHalves x y ⌝ }
+// Adds `k` bytes of `s` from `i` on, `d` apart, to the zeros of `r` from `o` on, `e` apart.
+fn add_strided(r: &mut [u8], o: usize, e: usize, s: &[u8], i: usize, d: usize, k: usize)
+    requires { ⌜ (0 < e) × Inside k 1 o e (length (now r)) × Inside k 1 i d (length (now s)) × Clear k o e (now r) ⌝ }
+    ensures { λ _. ⌜ now (r .exit) ≡ stridedCopy k (now (s .entry)) i d (now (r .entry)) o e ⌝ }
 {
-    x % 65536 + 65536 * (y % 65536)
+    let mut j = 0;
+    while j < k {
+        let a = o + j * e;
+        let b = i + j * d;
+        r[a] = r[a] + s[b];
+        j += 1;
+    }
 }
 
-// The high halves of both words, that of `x` first.
-fn high(x: u32, y: u32) -> u32
-    ensures { λ r. ⌜ r ≡ highHalves x y ⌝ }
+// The tile of `k` rows of `q` bytes each, those of `s` from `i` on, `d` apart. They are added to zeros, since of a plain copy the compiler makes loads of eight
+// bytes, and of this loads of sixteen; it knows the zeros and adds nothing.
+pub fn load(s: &[u8], i: usize, d: usize, k: usize, q: usize) -> [u8; 128]
+    requires { ⌜ (k * q ≡ 128) × Inside k q i d (length (now s)) ⌝ }
+    ensures { λ r. ⌜ r ≡ rowsCopy k q (now (s .entry)) i d (zeros 128) 0 q ⌝ }
 {
-    x / 65536 + 65536 * (y / 65536)
+    let mut r = [0u8; 128];
+    let mut n = 0;
+    while n < q {
+        add_strided(&mut r, n, q, s, i + n, d, k);
+        n += 1;
+    }
+    r
 }
 
-// Bytes 0 and 2 of `x`, each with the same byte of `y` behind it.
-fn even(x: u32, y: u32) -> u32
-    ensures { λ r. ⌜ r ≡ evenBytes x y ⌝ }
+// The bytes of both halves in turn.
+fn interleave(x: [u8; 128]) -> [u8; 128]
+    ensures { λ r. ⌜ r ≡ transposed 2 64 x ⌝ }
 {
-    x % 256 + 65536 * (x / 65536 % 256) + 256 * (y % 256 + 65536 * (y / 65536 % 256))
+    let mut r = [0u8; 128];
+    let mut n = 0;
+    while n < 64 {
+        let m = n + 64;
+        let p = 2 * n;
+        let q = p + 1;
+        r[p] = x[n];
+        r[q] = x[m];
+        n += 1;
+    }
+    r
 }
 
-// Bytes 1 and 3 of `x`, each with the same byte of `y` behind it.
-fn odd(x: u32, y: u32) -> u32
-    ensures { λ r. ⌜ r ≡ oddBytes x y ⌝ }
+// The transpose of `2 ^ times` rows. The halves of a transpose, interleaved, are the transpose of twice as many rows of half the length.
+pub fn transpose(x: [u8; 128], times: usize) -> [u8; 128]
+    requires { ⌜ times ≤ 7 ⌝ }
+    ensures { λ r. ⌜ r ≡ transposed (2 ^ times) (2 ^ (7 - times)) x ⌝ }
 {
-    x / 256 % 256 + 65536 * (x / 16777216) + 256 * (y / 256 % 256 + 65536 * (y / 16777216))
+    let mut r = x;
+    let mut n = 0;
+    while n < times {
+        let next = interleave(r);
+        r = next;
+        n += 1;
+    }
+    r
 }
 
-// The transpose of the bytes of four words: word j of the result has byte j of each.
-fn transpose(a: u32, b: u32, c: u32, d: u32) -> [u32; 4]
-    ensures { λ r. ⌜ r ≡ wordsAt 4 4 (transposed 4 4 (bytesOf 4 (a ∷ b ∷ c ∷ d ∷ []))) 0 ⌝ }
+// Copies `k` bytes of `s` from `i` on, `d` apart, into `out` from `o` on, `e` apart.
+fn copy_strided(out: &mut [u8], o: usize, e: usize, s: &[u8], i: usize, d: usize, k: usize)
+    requires { ⌜ Inside k 1 o e (length (now out)) × Inside k 1 i d (length (now s)) ⌝ }
+    ensures { λ _. ⌜ now (out .exit) ≡ stridedCopy k (now (s .entry)) i d (now (out .entry)) o e ⌝ }
 {
-    let p = low(a, c);
-    let q = low(b, d);
-    let r = high(a, c);
-    let s = high(b, d);
-    let w = even(p, q);
-    let x = odd(p, q);
-    let y = even(r, s);
-    let z = odd(r, s);
-    [w, x, y, z]
+    let mut j = 0;
+    while j < k {
+        let a = o + j * e;
+        let b = i + j * d;
+        out[a] = s[b];
+        j += 1;
+    }
 }
 
-// Four columns from `i` on, of four bytes each, `k` apart, as words.
-fn load_columns(s: &[u8], i: usize, k: usize) -> [u32; 4]
-    requires { ⌜ i + 3 * k + 4 ≤ length (now s) ⌝ }
-    ensures { λ r. ⌜ r ≡ wordsAt 4 4 (columns k 4 4 (now (s .entry)) i) 0 ⌝ }
+// The `k` rows of `q` bytes each of the tile `x` to `out` from `o` on, `e` apart.
+pub fn store(out: &mut [u8], o: usize, e: usize, x: [u8; 128], k: usize, q: usize)
+    requires { ⌜ (k * q ≡ 128) × Inside k q o e (length (now out)) ⌝ }
+    ensures { λ _. ⌜ now (out .exit) ≡ rowsCopy k q x 0 q (now (out .entry)) o e ⌝ }
 {
-    let j = i + k;
-    let l = j + k;
-    let p = l + k;
-    transpose(
-        memory32::load(s, i),
-        memory32::load(s, j),
-        memory32::load(s, l),
-        memory32::load(s, p),
-    )
-}
-
-// Four words as rows of four bytes, `m` apart, from `o` on.
-fn store_rows(out: &mut [u8], o: usize, m: usize, v: [u32; 4])
-    requires { ⌜ o + 3 * m + 4 ≤ length (now out) ⌝ }
-    ensures { λ _. ⌜ now (out .exit) ≡
-        sets (sets (sets (sets (now (out .entry)) o (bytes 4 (getD v 0 0))) (o + m) (bytes 4 (getD v 1 0))) (o + m + m) (bytes 4 (getD v 2 0))) (o + m + m + m)
-        (bytes 4 (getD v 3 0)) ⌝ }
-{
-    let j = o + m;
-    let l = j + m;
-    let p = l + m;
-    memory32::store(out, o, v[0]);
-    memory32::store(out, j, v[1]);
-    memory32::store(out, l, v[2]);
-    memory32::store(out, p, v[3]);
-}
-
-// Four columns of `s` from `i` on, where rows are `k` bytes apart, as rows of `out` from `o` on, `m` bytes apart.
-pub fn transpose_tile(s: &[u8], i: usize, k: usize, out: &mut [u8], o: usize, m: usize)
-    requires { ⌜ (i + 3 * k + 4 ≤ length (now s)) × (o + 3 * m + 4 ≤ length (now out)) ⌝ }
-    ensures { λ _. ⌜ now (out .exit) ≡ tiled k m (now (s .entry)) i (now (out .entry)) o ⌝ }
-{
-    store_rows(out, o, m, load_columns(s, i, k));
+    let mut n = 0;
+    while n < q {
+        copy_strided(out, o + n, e, &x, n, q, k);
+        n += 1;
+    }
 }

@@ -1,22 +1,35 @@
+use mathlib.Core.Path.{_≡_, ap, _∙_}
+use Prim.Native.Nat.{ℕ, _-_, _≤_}
 use borrow.Author.Needs.{needs}
-use Rattle.tile.proofs.Words.{four-words}
+use native.Mathlib.Omega.{arith}
+use Rattle.shuffle.specs.Transposed.{transposed}
+use Rattle.tile.proofs.Interleaved.{turned, turned-none, turned-more}
 use Rattle.tile.proofs.transpose.Statement.{statement}
 use Rattle.tile.proofs.transpose.Tie as tie
 
-returns : tie.Need-returns
+abbrev Inv-loop : tie.InvT-loop
+Inv-loop times r₀ n₀ r n = (n ≤ times) × (times ≤ 7) × (r ≡ turned n r₀)
+
+abbrev μ-loop : tie.MeasureT-loop
+μ-loop times r₀ n₀ r n = times - n
+
+loop-holds : tie.Need-loop-holds Inv-loop μ-loop
+loop-holds c = (search needs, c .pre, turned-none (c .args .x) (search needs))
+
+loop-again : tie.Need-loop-again Inv-loop μ-loop
+loop-again c =
+    let l = c .before .before .loop in (
+      omega arith,
+      l .inv .1,
+      c .interleave .ensures ∙ ap (transposed 2 64) (l .inv .2) ∙ turned-more (l .n) (c .before .before .before .args .x) (omega (arith, l .inv .1, c .before .loop-test .taken)),
+    )
+
+returns : tie.Need-returns Inv-loop μ-loop
 returns c =
-    let h = c .before .before .before .before .high2 in
-    let g = c .before .before .before .before .before .high in
-    let m = c .before .before .before .before .before .before .low2 in
-    let l = c .before .before .before .before .before .before .before .low in
-    let a = c .before .before .before .before .before .before .before .before .args in
-    four-words (a .a) (a .b) (a .c) (a .d) (search needs) (search needs) (search needs) (search needs) (l .result) (m .result) (g .result) (h .result)
-    (l .ensures) (m .ensures) (g .ensures) (h .ensures) _ _ _ _ (c .before .before .before .even .ensures) (c .before .before .odd .ensures)
-    (c .before .even2 .ensures) (c .odd2 .ensures)
+    let l = c .before .loop in
+    let e : l .n ≡ c .before .before .args .times = omega (arith, l .inv .0, c .loop-test .left) in
+    l .inv .2 ∙ ap (λ (t : ℕ). turned t (c .before .before .args .x)) e
 
 pub transpose-spec : {M : Type 1} → statement M
 transpose-spec =
-    tie.close
-    (tie.spec
-    (λ c κs. search needs) (λ c κs. search needs) (λ c κs. search needs) (λ c κs. search needs) (λ c κs. search needs)
-    (λ c κs. search needs) (λ c κs. search needs) (λ c κs. search needs) returns)
+    tie.close (tie.spec Inv-loop μ-loop loop-holds (λ c κs. search needs) (λ c. search needs) (λ c. search needs) loop-again returns)
