@@ -10,7 +10,8 @@ ghost use Rattle.shuffle.specs.Shuffle.{recordLength, shuffledRecord, unshuffle
 ghost use Rattle.shuffle.specs.Shuffle.{recordsAnswer, shuffleOut, unshuffleOut};
 use answer::Answer;
 
-// The record `s`, shuffled, to the start of `out`.
+// The record `s`, shuffled, to the start of `out`. The numbers are the bytes of a word, the words of a tile and the logarithm of these: the compiler puts the
+// call in line and knows them.
 fn shuffle_record(width: u32, s: &[u8], out: &mut [u8])
     requires { ⌜ (knownWidth width ≡ true) × (length (now s) ≡ recordLength width) × (recordLength width ≤ length (now out)) ⌝ }
     ensures { λ _. ⌜ now (out .exit) ≡ shuffledRecord width (now (s .entry)) ++ drop (recordLength width) (now (out .entry)) ⌝ }
@@ -22,7 +23,7 @@ fn shuffle_record(width: u32, s: &[u8], out: &mut [u8])
     record::shuffle(s, out, 8, 16, 4);
 }
 
-// The shuffled record `s`, as it was, to the start of `out`.
+// The shuffled record `s`, as it was, to the start of `out`. The numbers are the bytes of a word, the words of a tile and the logarithm of the former.
 fn restore_record(width: u32, s: &[u8], out: &mut [u8])
     requires { ⌜ (knownWidth width ≡ true) × (length (now s) ≡ recordLength width) × (recordLength width ≤ length (now out)) ⌝ }
     ensures { λ _. ⌜ now (out .exit) ≡ unshuffledRecord width (now (s .entry)) ++ drop (recordLength width) (now (out .entry)) ⌝ }

@@ -10,7 +10,7 @@ use lib.Dec.{eqb, ltb}
 use lib.ListN.{length, getD, set, length-set}
 use lib.Seq.{getD-set-same, getD-set-other}
 use Rattle.answer.proofs.Tests.{decide}
-use Rattle.tile.specs.Copy.{Inside, Clear, zeros, stridedCopy, rowsCopy}
+use Rattle.tile.specs.Copy.{Inside, zeros, stridedCopy, rowsCopy}
 
 -- a row of e places ends before a later one begins
 pub row-below : (e a b : ℕ) → a < b → a * e + e ≤ b * e
@@ -87,18 +87,6 @@ module _ {k : ℕ} {s : List ℕ} {i d : ℕ} {old : List ℕ} {o e : ℕ} where
               ap (λ (l : List ℕ). set l (o + j * e) (getD s (i + j * d) 0)) (c .copied)
               ∙ ap (λ (n : ℕ). stridedCopy n s i d old o e) (sym (add-one j));
         }
-
-    -- the next place is as it was, so that a sum with zero stores the same
-    pub still-zero : 0 < e → Clear k o e old → j < k → getD new (o + j * e) 0 ≡ 0
-    still-zero f z h =
-        ap (λ (l : List ℕ). getD l (o + j * e) 0) (c .copied)
-        ∙ strided-other s i d old o e j (o + j * e) (λ n g x. rows-apart e j n f (omega arith) (omega arith)) ∙ z j h
-
-    pub next-sum : 0 < e → Clear k o e old → j < k
-        → Copying k s i d old o e (j + 1) (set new (o + j * e) (getD new (o + j * e) 0 + getD s (i + j * d) 0))
-    next-sum f z h =
-        let x : getD s (i + j * d) 0 ≡ getD new (o + j * e) 0 + getD s (i + j * d) 0 = omega (arith, still-zero f z h) in
-        subst (λ (n : ℕ). Copying k s i d old o e (j + 1) (set new (o + j * e) n)) x (next h)
 
     pub end : k ≤ j → new ≡ stridedCopy k s i d old o e
     end h = let x : j ≡ k = omega (arith, c .bound) in c .copied ∙ ap (λ (n : ℕ). stridedCopy n s i d old o e) x
@@ -193,12 +181,6 @@ unfolding zeros
 zeros-length zero = refl
 zeros-length (suc n) = ap suc (zeros-length n)
 
-zeros-at : (n p : ℕ) → getD (zeros n) p 0 ≡ 0
-unfolding zeros
-zeros-at zero p = refl
-zeros-at (suc n) zero = refl
-zeros-at (suc n) (suc p) = zeros-at n p
-
 -- it is filled from s
 abbrev pub Filling : ℕ → ℕ → List ℕ → ℕ → ℕ → ℕ → List ℕ → Type 0
 Filling k q s i d n r = RowsCopying k q s i d (zeros 128) 0 q n r
@@ -210,10 +192,3 @@ module _ {k q : ℕ} {s : List ℕ} {i d : ℕ} where
   module _ {n : ℕ} {r : List ℕ} (c : Filling k q s i d n r) where
     pub fill-size : length r ≡ 128
     fill-size = rows-size c ∙ zeros-length 128
-
-    -- the next column holds zeros
-    pub still-clear : n < q → Clear k n q r
-    still-clear h j g =
-        ap (λ (l : List ℕ). getD l (n + j * q) 0) (c .copied)
-        ∙ rows-other k s i d (zeros 128) 0 q n (n + j * q)
-        (λ b a x y z. columns-apart q n b j a (omega arith) (omega arith) (omega arith) (omega arith)) ∙ zeros-at 128 (n + j * q)

@@ -1,5 +1,4 @@
 -- Bytes and rows of bytes that stand apart, copied to places that stand apart.
-use mathlib.Core.Path.{_≡_}
 use mathlib.Core.List.{List, [], _∷_}
 use Prim.Native.Nat.{ℕ, zero, suc, _+_, _*_, _≤_, _<_}
 use lib.ListN.{getD, set}
@@ -7,10 +6,6 @@ use lib.ListN.{getD, set}
 -- k rows of q places each, from place i on, d apart, lie below n
 abbrev pub Inside : ℕ → ℕ → ℕ → ℕ → ℕ → Type 0
 Inside k q i d n = (j : ℕ) → j < k → i + j * d + q ≤ n
-
--- k places of r from o on, e apart, hold zeros
-abbrev pub Clear : ℕ → ℕ → ℕ → List ℕ → Type 0
-Clear k o e r = (j : ℕ) → j < k → getD r (o + j * e) 0 ≡ 0
 
 -- n zeros
 unfoldable pub zeros : ℕ → List ℕ

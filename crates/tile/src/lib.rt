@@ -1,27 +1,26 @@
 // A tile: 128 bytes of a record, by value. It is loaded from rows that stand apart, transposed, and stored to rows that stand apart. Rows
 // are moved side by side, a byte of each and then the next, so that the compiler takes sixteen bytes of every row together.
 ghost use mathlib.Core.Path.{_≡_};
-ghost use Prim.Native.Nat.{_*_, _-_, _^_, _≤_, _<_};
+ghost use Prim.Native.Nat.{_*_, _-_, _^_, _≤_};
 ghost use lib.ListN.{length};
 ghost use Rattle.shuffle.specs.Transposed.{transposed};
-ghost use Rattle.tile.specs.Copy.{Inside, Clear, zeros, stridedCopy, rowsCopy};
+ghost use Rattle.tile.specs.Copy.{Inside, zeros, stridedCopy, rowsCopy};
 
-// Adds `k` bytes of `s` from `i` on, `d` apart, to the zeros of `r` from `o` on, `e` apart.
-fn add_strided(r: &mut [u8], o: usize, e: usize, s: &[u8], i: usize, d: usize, k: usize)
-    requires { ⌜ (0 < e) × Inside k 1 o e (length (now r)) × Inside k 1 i d (length (now s)) × Clear k o e (now r) ⌝ }
-    ensures { λ _. ⌜ now (r .exit) ≡ stridedCopy k (now (s .entry)) i d (now (r .entry)) o e ⌝ }
+// Copies `k` bytes of `s` from `i` on, `d` apart, into `out` from `o` on, `e` apart.
+fn copy_strided(out: &mut [u8], o: usize, e: usize, s: &[u8], i: usize, d: usize, k: usize)
+    requires { ⌜ Inside k 1 o e (length (now out)) × Inside k 1 i d (length (now s)) ⌝ }
+    ensures { λ _. ⌜ now (out .exit) ≡ stridedCopy k (now (s .entry)) i d (now (out .entry)) o e ⌝ }
 {
     let mut j = 0;
     while j < k {
         let a = o + j * e;
         let b = i + j * d;
-        r[a] = r[a] + s[b];
+        out[a] = s[b];
         j += 1;
     }
 }
 
-// The tile of `k` rows of `q` bytes each, those of `s` from `i` on, `d` apart. They are added to zeros, since of a plain copy the compiler makes loads of eight
-// bytes, and of this loads of sixteen; it knows the zeros and adds nothing.
+// The tile of `k` rows of `q` bytes each, those of `s` from `i` on, `d` apart.
 pub fn load(s: &[u8], i: usize, d: usize, k: usize, q: usize) -> [u8; 128]
     requires { ⌜ (k * q ≡ 128) × Inside k q i d (length (now s)) ⌝ }
     ensures { λ r. ⌜ r ≡ rowsCopy k q (now (s .entry)) i d (zeros 128) 0 q ⌝ }
@@ -29,7 +28,7 @@ pub fn load(s: &[u8], i: usize, d: usize, k: usize, q: usize) -> [u8; 128]
     let mut r = [0u8; 128];
     let mut n = 0;
     while n < q {
-        add_strided(&mut r, n, q, s, i + n, d, k);
+        copy_strided(&mut r, n, q, s, i + n, d, k);
         n += 1;
     }
     r
@@ -65,20 +64,6 @@ pub fn transpose(x: [u8; 128], times: usize) -> [u8; 128]
         n += 1;
     }
     r
-}
-
-// Copies `k` bytes of `s` from `i` on, `d` apart, into `out` from `o` on, `e` apart.
-fn copy_strided(out: &mut [u8], o: usize, e: usize, s: &[u8], i: usize, d: usize, k: usize)
-    requires { ⌜ Inside k 1 o e (length (now out)) × Inside k 1 i d (length (now s)) ⌝ }
-    ensures { λ _. ⌜ now (out .exit) ≡ stridedCopy k (now (s .entry)) i d (now (out .entry)) o e ⌝ }
-{
-    let mut j = 0;
-    while j < k {
-        let a = o + j * e;
-        let b = i + j * d;
-        out[a] = s[b];
-        j += 1;
-    }
 }
 
 // The `k` rows of `q` bytes each of the tile `x` to `out` from `o` on, `e` apart.
