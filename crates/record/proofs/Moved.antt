@@ -128,7 +128,7 @@ module _ {k q : ℕ} {from to : ℕ → ℕ → ℕ} {s old : List ℕ} where
 -- ---- out: a row of a tile is words, each of its columns goes to a row of the record
 
 module _ {k q : ℕ} {s old : List ℕ} {g : ℕ} {out : List ℕ} (m : Moved k q (plain k) across s old g out) (h : g < 64) (x y last : List ℕ)
-    (loaded : x ≡ rowsCopy 1 128 s (k * g) 128 (zeros 128) 0 128) (turned : y ≡ transposed q k x) (stored : last ≡ rowsCopy k q y 0 q out g 64) where
+    (loaded : x ≡ rowsCopy 1 128 s (k * g) 128 (zeros 128) 0 128) (made : y ≡ transposed q k x) (stored : last ≡ rowsCopy k q y 0 q out g 64) where
   out-at : (b j : ℕ) → b < q → j < k → getD last (across (g + b) j) 0 ≡ getD s (plain k (g + b) j) 0
   out-at b j f e =
       let p : j * 64 + (g + b) ≡ g + b + j * 64 = omega arith in
@@ -136,7 +136,7 @@ module _ {k q : ℕ} {s old : List ℕ} {g : ℕ} {out : List ℕ} (m : Moved k 
       let w : k * g + (b * k + j) ≡ (g + b) * k + j = omega (arith, add-mul g b k, mul-comm k g) in
       ap₂ {C = ℕ} (λ (l : List ℕ) (n : ℕ). getD l n 0) stored p
       ∙ rows-at k y 0 q out g 64 q (omega (arith, tile-inside m h)) (rows-inside m h (length out) (omega (arith, m .size, m .room))) b j f e
-      ∙ ap₂ {C = ℕ} (λ (l : List ℕ) (n : ℕ). getD l n 0) turned v ∙ transposed-at q k x j b e f
+      ∙ ap₂ {C = ℕ} (λ (l : List ℕ) (n : ℕ). getD l n 0) made v ∙ transposed-at q k x j b e f
       ∙ tile-at s (k * g) x loaded (b * k + j) (byte-inside m b j f e) ∙ ap (λ (n : ℕ). getD s n 0) w
 
   pub shuffle-more : Moved k q (plain k) across s old (g + q) last
@@ -152,7 +152,7 @@ module _ {k q : ℕ} {s old : List ℕ} {g : ℕ} {out : List ℕ} (m : Moved k 
 -- ---- back: a row of a tile is of a row of the record, each of its columns is a word
 
 module _ {k q : ℕ} {s old : List ℕ} {g : ℕ} {out : List ℕ} (m : Moved k q across (plain k) s old g out) (h : g < 64) (x y last : List ℕ)
-    (loaded : x ≡ rowsCopy k q s g 64 (zeros 128) 0 q) (turned : y ≡ transposed k q x) (stored : last ≡ rowsCopy 1 128 y 0 128 out (k * g) 128) where
+    (loaded : x ≡ rowsCopy k q s g 64 (zeros 128) 0 q) (made : y ≡ transposed k q x) (stored : last ≡ rowsCopy 1 128 y 0 128 out (k * g) 128) where
   back-at : (b j : ℕ) → b < q → j < k → getD last (plain k (g + b) j) 0 ≡ getD s (across (g + b) j) 0
   back-at b j f e =
       let p : (g + b) * k + j ≡ k * g + (b * k + j) = omega (arith, add-mul g b k, mul-comm k g) in
@@ -161,7 +161,7 @@ module _ {k q : ℕ} {s old : List ℕ} {g : ℕ} {out : List ℕ} (m : Moved k 
       let w : g + b + j * 64 ≡ j * 64 + (g + b) = omega arith in
       ap₂ {C = ℕ} (λ (l : List ℕ) (n : ℕ). getD l n 0) stored p
       ∙ row-at y 0 out (k * g) (omega (arith, tile-ends m h, m .size, m .room)) (b * k + j) (byte-inside m b j f e)
-      ∙ ap₂ {C = ℕ} (λ (l : List ℕ) (n : ℕ). getD l n 0) turned u ∙ transposed-at k q x b j f e
+      ∙ ap₂ {C = ℕ} (λ (l : List ℕ) (n : ℕ). getD l n 0) made u ∙ transposed-at k q x b j f e
       ∙ ap₂ {C = ℕ} (λ (l : List ℕ) (n : ℕ). getD l n 0) loaded v
       ∙ rows-at k s g 64 (zeros 128) 0 q q (omega arith) (subst (Inside k q 0 q) (sym (zeros-length 128)) (in-tile k q (m .tile))) b j f e
       ∙ ap (λ (n : ℕ). getD s n 0) w

@@ -17,18 +17,18 @@ use Rattle.shuffle.proofs.Transposed.{transposed-length, transposed-at, by-rows
 -- ---- the loop over both halves
 
 -- the first n bytes of both halves of x stand in turn in r
-pub record Woven (x : List ℕ) (n : ℕ) (r : List ℕ) : Type 0 where
+pub record Interleaving (x : List ℕ) (n : ℕ) (r : List ℕ) : Type 0 where
   pub bound : n ≤ 64
   pub size : length r ≡ 128
   pub turns : (b e : ℕ) → b < n → e < 2 → getD r (b * 2 + e) 0 ≡ getD x (e * 64 + b) 0
 
 module _ (x : List ℕ) where
-  pub none-woven : (r : List ℕ) → length r ≡ 128 → Woven x 0 r
-  none-woven r h = record { bound = omega arith; size = h; turns = λ b e f g. absurd (omega arith) }
+  pub interleaving-none : (r : List ℕ) → length r ≡ 128 → Interleaving x 0 r
+  interleaving-none r h = record { bound = omega arith; size = h; turns = λ b e f g. absurd (omega arith) }
 
-  module _ {n : ℕ} {r : List ℕ} (w : Woven x n r) where
-    pub next-woven : n < 64 → Woven x (n + 1) (set (set r (2 * n) (getD x n 0)) (2 * n + 1) (getD x (n + 64) 0))
-    next-woven h =
+  module _ {n : ℕ} {r : List ℕ} (w : Interleaving x n r) where
+    pub interleaving-next : n < 64 → Interleaving x (n + 1) (set (set r (2 * n) (getD x n 0)) (2 * n + 1) (getD x (n + 64) 0))
+    interleaving-next h =
         let l = set r (2 * n) (getD x n 0) in
         let y = getD x (n + 64) 0 in
         let s = length-set r (2 * n) (getD x n 0) in
@@ -53,8 +53,8 @@ module _ (x : List ℕ) where
               ∙ w .turns b e (omega (arith, eqb-false (b * 2 + e) (2 * n) u, eqb-false (b * 2 + e) (2 * n + 1) t)) g));
         }
 
-    pub all-woven : 64 ≤ n → r ≡ transposed 2 64 x
-    all-woven h =
+    pub interleaving-all : 64 ≤ n → r ≡ transposed 2 64 x
+    interleaving-all h =
         by-rows 2 64 (lit≤ tt) r (transposed 2 64 x) (w .size) (transposed-length 2 64 x)
         (λ b e f g. w .turns b e (omega arith) g ∙ sym (transposed-at 2 64 x b e f g))
 
@@ -91,20 +91,20 @@ module _ (n m : ℕ) (s : List ℕ) where
 
 -- ---- of 128 bytes
 
--- t times
-abbrev pub turned : ℕ → List ℕ → List ℕ
-turned t s = transposed (2 ^ t) (2 ^ (7 - t)) s
+-- what interleaving them t times comes to: the transpose of 2 ^ t rows
+abbrev pub repeated : ℕ → List ℕ → List ℕ
+repeated t s = transposed (2 ^ t) (2 ^ (7 - t)) s
 
-pub turned-none : (s : List ℕ) → length s ≡ 128 → s ≡ turned 0 s
-turned-none s h =
+pub repeated-none : (s : List ℕ) → length s ≡ 128 → s ≡ repeated 0 s
+repeated-none s h =
     by-rows 1 128 (lit≤ tt) s (transposed 1 128 s) h (transposed-length 1 128 s)
     (λ b a f g.
     let z : a ≡ 0 = omega arith in
     let p : b * 1 + a ≡ a * 128 + b = omega arith in
     ap (λ (i : ℕ). getD s i 0) p ∙ sym (transposed-at 1 128 s b a f g))
 
-pub turned-more : (t : ℕ) (s : List ℕ) → t < 7 → transposed 2 64 (turned t s) ≡ turned (t + 1) s
-turned-more t s h =
+pub repeated-more : (t : ℕ) (s : List ℕ) → t < 7 → transposed 2 64 (repeated t s) ≡ repeated (t + 1) s
+repeated-more t s h =
     let m = 2 ^ (6 - t) in
     let n = 2 ^ t in
     let e : suc (6 - t) ≡ 7 - t = omega arith in
