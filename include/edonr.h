@@ -20,8 +20,8 @@
  * What a caller must keep
  *   The buffers of one call do not overlap, and each has the length given with it; one of
  *   length 0 is neither read nor written, and its pointer may be NULL. A pointer to a
- *   struct (D) points to one of its kind. No call can test this, and nothing else is asked
- *   of the caller: every other argument is checked.
+ *   struct (D, F) points to one of its kind. No call can test this, and nothing else is
+ *   asked of the caller: every other argument is checked.
  *
  * Threads
  *   Nothing is kept between calls: no state, no tables filled at first use, no memory
@@ -456,7 +456,8 @@ uint64_t edonr_block_backward(uint32_t width, uint8_t *pipe, size_t pipe_len,
  * anywhere between two records.
  */
 
-#define EDONR_REFUSED_RECORDS 16 /* the records' length is no multiple of a record's */
+#define EDONR_REFUSED_RECORDS 16      /* the records' length is no multiple of a record's */
+#define EDONR_REFUSED_RECORD_COUNT 17 /* there are more records than commands */
 
 /*
  * The byte shuffle of records.
@@ -487,6 +488,45 @@ uint64_t edonr_shuffle(uint32_t width, const uint8_t *records, size_t records_le
  */
 uint64_t edonr_unshuffle(uint32_t width, const uint8_t *records, size_t records_len,
                          uint8_t *out, size_t out_len);
+
+/* What edonr_first_false_record finds in a false record: the first word that differs. */
+struct edonr_finding {
+    uint64_t offset;   /* of the record's command in the sheet */
+    uint64_t place;    /* of the word's vector, 0 to 7 */
+    uint64_t word;     /* its number in that vector, 0 to 7 */
+    uint64_t found;    /* what the record has there */
+    uint64_t expected; /* what it should have */
+};
+
+/* A struct with padding would be longer than its fields, and this would not compile. */
+typedef char edonr_finding_has_no_padding[sizeof(struct edonr_finding) == 40 ? 1 : -1];
+
+/*
+ * Says where a recorded run first went wrong. It does the commands of a sheet again, as
+ * edonr_run_forward does, and holds record k, k from 1, against V0 to V7 after k commands.
+ *
+ * Each record is held against the run from its start, and never against the record before
+ * it: a false record neither excuses the ones behind it nor accuses them. There may be
+ * fewer records than commands, or none; the first ones are then held against the first
+ * commands. Records are plain ones; edonr_unshuffle makes them from shuffled ones.
+ *
+ * Reads    vectors, EDONR_PLACES * w bytes: those that the run started from; sheet,
+ *          sheet_len bytes; and records, records_len bytes. None of them changes.
+ * Writes   beside a false record, and only there, *finding: of all its words that differ
+ *          the first, by place and then by number. At width 32 the upper halves of found
+ *          and expected are 0.
+ * Returns  0 if every record holds, or the number of the first false one, 1 to 2,048. All
+ *          records before that one hold.
+ * Refuses  in this order:
+ *          5 to 11                         what edonr_run_forward refuses, with the same
+ *                                          answers;
+ *         16 EDONR_REFUSED_RECORDS         records_len is no multiple of EDONR_PLACES * w;
+ *         17 EDONR_REFUSED_RECORD_COUNT    there are more records than commands.
+ */
+uint64_t edonr_first_false_record(uint32_t width, const uint8_t *vectors,
+                                  size_t vectors_len, const uint8_t *sheet,
+                                  size_t sheet_len, const uint8_t *records,
+                                  size_t records_len, struct edonr_finding *finding);
 
 #ifdef __cplusplus
 }

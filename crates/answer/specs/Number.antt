@@ -1,9 +1,9 @@
--- Document 01, "What each operation refuses", and for 14 and 16 document 02, Papers 5 and 13: the number of each refusal, and an answer as one number for C.
+-- Document 01, "What each operation refuses", and for 14, 16 and 17 document 02, Papers 5, 13 and 10: the number of each refusal, and an answer as one number for C.
 use Prim.Native.Nat.{ℕ, _+_, _*_, _^_}
 use Rattle.answer.specs.declared.Answer.{Answer}
 use Rattle.answer.specs.declared.Answer.the-variants.{Done, Refused}
 use Rattle.answer.specs.declared.Refusal.{Refusal}
-use Rattle.answer.specs.declared.Refusal.the-variants.{Size, State, Length, Output, Width, Operand, Sheet, Opcode, Truncated, Place, SamePlace, Start, Records}
+use Rattle.answer.specs.declared.Refusal.the-variants.{Size, State, Length, Output, Width, Operand, Sheet, Opcode, Truncated, Place, SamePlace, Start, Records, RecordCount}
 
 abbrev pub refusalNumber : Refusal → ℕ
 refusalNumber Size = 1
@@ -19,6 +19,7 @@ refusalNumber Place = 10
 refusalNumber SamePlace = 11
 refusalNumber Start = 14
 refusalNumber Records = 16
+refusalNumber RecordCount = 17
 
 -- a success's own number, or 2^32 times the refusal number plus the offset
 abbrev pub numberOf : Answer → ℕ

@@ -19,6 +19,7 @@ pub enum Refusal {
     SamePlace,
     Start,
     Records,
+    RecordCount,
 }
 
 // The offset of a refusal is that of the first byte of the first faulty command of a sheet, and 0 for a refusal that has no place.
@@ -49,6 +50,7 @@ pub fn refusal_number(r: Refusal) -> u64
         Refusal::SamePlace => 11,
         Refusal::Start => 14,
         Refusal::Records => 16,
+        Refusal::RecordCount => 17,
     }
 }
 

@@ -19,6 +19,8 @@ ghost use Rattle.slice.specs.Number.{sliceNumber};
 ghost use Rattle.inverse.specs.Inverse.{inverseAnswer, inverseOut};
 ghost use Rattle.pipe.specs.Call.{stepAnswer, stepBytes};
 ghost use Rattle.shuffle.specs.Shuffle.{recordsAnswer, shuffleOut, unshuffleOut};
+ghost use Rattle.replay.specs.Replay.{replayAnswer};
+ghost use Rattle.replay.specs.Number.{replayNumber, findingAfter};
 ghost use Rattle.narrow.specs.Outcomes.{narrowOf, hashOf as ofNarrow, fed as fedNarrow};
 ghost use Rattle.wide.specs.Outcomes.{wideOf, hashOf as ofWide, fed as fedWide};
 use narrow::Narrow;
@@ -91,6 +93,25 @@ pub extern "C" fn edonr_run_slice(
     ensures { λ _. ⌜ now (vectors .exit) ≡ sliceBytes budget width (now (sheet .entry)) offset (now (vectors .entry)) ⌝ }
 {
     slice::number(slicer::run_slice(width, vectors, sheet, offset, budget))
+}
+
+// The first false record of a run of the sheet over the vectors. `finding` is written beside a false record, and else keeps what it has.
+#[no_mangle]
+pub extern "C" fn edonr_first_false_record(
+    width: u32,
+    vectors: &[u8],
+    sheet: &[u8],
+    records: &[u8],
+    finding: &mut [u64; 5],
+) -> u64
+    ensures { λ r. ⌜ r ≡ replayNumber (replayAnswer width (now (sheet .entry)) (now (vectors .entry)) (now (records .entry))) ⌝ }
+    ensures { λ _. let a = replayAnswer width (now (sheet .entry)) (now (vectors .entry)) (now (records .entry)) in
+        ⌜ now (finding .exit) ≡ findingAfter a (now (finding .entry)) ⌝ }
+{
+    replay::report(
+        replayer::first_false_record(width, vectors, sheet, records),
+        finding,
+    )
 }
 
 // The inverse of the sheet, into the first bytes of `out`, as many as the sheet has.

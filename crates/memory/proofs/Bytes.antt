@@ -46,6 +46,30 @@ module _ (s : List ℕ) (small : Bytes s) where
       ∙ ap (λ (l : List ℕ). take k (drop i s) ++ l) (bytes-words k n (i + k) r ∙ ap (take (n * k)) (sym (drop-drop k i s)))
       ∙ sym (take-add k (n * k) (drop i s)) ∙ ap (λ (j : ℕ). take j (drop i s)) (sym e)
 
+-- ---- the words from i on: their number, each by itself, and in two parts
+
+pub words-length : (k n : ℕ) (s : List ℕ) (i : ℕ) → length (wordsAt k n s i) ≡ n
+words-length k zero s i = refl
+words-length k (suc n) s i = ap suc (words-length k n s (i + k))
+
+pub words-get : (k n : ℕ) (s : List ℕ) (i j : ℕ) → j < n → getD (wordsAt k n s i) j 0 ≡ wordAt k s (i + j * k)
+words-get k zero s i j h = absurd (omega arith)
+words-get k (suc n) s i zero h = let e : i ≡ i + 0 * k = omega (arith, zero-mul k) in ap (wordAt k s) e
+words-get k (suc n) s i (suc j) h =
+    let e : i + k + j * k ≡ i + suc j * k = omega (arith, suc-mul j k) in
+    words-get k n s (i + k) j (omega arith) ∙ ap (wordAt k s) e
+
+pub words-append : (k m n : ℕ) (s : List ℕ) (i : ℕ) → wordsAt k (m + n) s i ≡ wordsAt k m s i ++ wordsAt k n s (i + m * k)
+words-append k zero n s i =
+    let a : 0 + n ≡ n = omega arith in
+    let b : i ≡ i + 0 * k = omega (arith, zero-mul k) in
+    ap (λ (m : ℕ). wordsAt k m s i) a ∙ ap (wordsAt k n s) b
+words-append k (suc m) n s i =
+    let a : suc m + n ≡ suc (m + n) = omega arith in
+    let b : i + k + m * k ≡ i + suc m * k = omega (arith, suc-mul m k) in
+    ap (λ (m : ℕ). wordsAt k m s i) a
+    ∙ ap (λ (l : List ℕ). wordsAt k 1 s i ++ l) (words-append k m n s (i + k) ∙ ap (λ (j : ℕ). wordsAt k m s (i + k) ++ wordsAt k n s j) b)
+
 -- the word in the bytes of x is x, reduced
 pub word-bytes : (k x : ℕ) (p q : List ℕ) (i : ℕ) → length p ≡ i → wordAt k (p ++ (bytes k x ++ q)) i ≡ x % 256 ^ k
 word-bytes zero x p q i e = sym (mod-one x)

@@ -3,3 +3,4 @@ pub mod Eight
 pub mod Bytes
 pub mod Parts
 pub mod Copy
+pub mod Same

@@ -14,7 +14,7 @@ fn byte(x: u8) -> u32
 }
 
 // The word whose four bytes stand at `at`, lowest byte first.
-fn load(s: &[u8], at: usize) -> u32
+pub fn load(s: &[u8], at: usize) -> u32
     requires { ⌜ at + 4 ≤ length (now s) ⌝ }
     ensures { λ r. ⌜ r ≡ wordAt 4 (now (s .entry)) at ⌝ }
 {

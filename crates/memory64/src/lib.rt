@@ -14,7 +14,7 @@ fn byte(x: u8) -> u64
 }
 
 // The word whose eight bytes stand at `at`, lowest byte first.
-fn load(s: &[u8], at: usize) -> u64
+pub fn load(s: &[u8], at: usize) -> u64
     requires { ⌜ at + 8 ≤ length (now s) ⌝ }
     ensures { λ r. ⌜ r ≡ wordAt 8 (now (s .entry)) at ⌝ }
 {

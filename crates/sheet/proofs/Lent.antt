@@ -104,8 +104,11 @@ module _ (w : ℕ) (hw : Bytewise w) where
     length-from zero i = refl
     length-from (suc n) i = ap suc (length-from n (i + w))
 
+    pub state-from : (n i : ℕ) → State n w (vectorsFrom w n b i)
+    state-from n i = record { size = length-from n i; each = each-from n i }
+
     pub lent-state : (n : ℕ) → State n w (vectorsFrom w n b 0)
-    lent-state n = record { size = length-from n 0; each = each-from n 0 }
+    lent-state n = state-from n 0
 
   -- one vector written over
   bytes-set : (v : List (List ℕ)) → ((i : ℕ) → i < length v → Vector w (at v i)) → (d : ℕ) (x : List ℕ) → d < length v

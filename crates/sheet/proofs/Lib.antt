@@ -9,6 +9,7 @@ pub mod Lent
 pub mod Undoing
 pub mod Progress
 pub mod Start
+pub mod FromStart
 pub mod Counting
 pub mod RoundTrip
 pub mod Compatible

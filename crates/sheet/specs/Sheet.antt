@@ -48,3 +48,7 @@ scanFrom f w s i = scanAmong placeCount f w s i
 
 abbrev pub planOf : ℕ → List ℕ → Plan
 planOf w s = planAmong placeCount w s
+
+-- the number of commands, of a sheet without a fault
+abbrev pub commandCount : ℕ → List ℕ → ℕ
+commandCount w s = length (planOf w s .offsets)

@@ -4,37 +4,34 @@ use mathlib.Core.Bool.{true, false, true≢false}
 use mathlib.Core.List.{List, [], _∷_, sum}
 use Prim.Native.Nat.{ℕ, _+_, _*_, _≤_}
 use native.Mathlib.Nat.{zero-add, add-zero, add-assoc}
-use native.Mathlib.Omega.{arith}
 use borrow.Author.Tests.{eq-eqb}
 use lib.Dec.{eqb}
-use lib.ListN.{length, getD, take, List·getD-eq-default}
-use lib.Seq.{take-all}
+use lib.ListN.{length, List·getD-eq-default}
 use Rattle.answer.specs.declared.Answer.{Answer}
 use Rattle.answer.specs.declared.Answer.the-variants as Answers
 use Rattle.answer.specs.declared.Refusal.{Refusal}
 use Rattle.answer.specs.Refuse.{isDone, outcome}
 use Rattle.invertible.specs.Invertible.{stepped, outputs, Each, none, more}
 use Rattle.invertible.specs.RoundTrip.{Forward, Backward}
-use Rattle.invertible.proofs.Invertible.{each, kept}
 use Rattle.memory.specs.Bytes.{Bytes}
 use Rattle.quasigroup.proofs.Widths.{Bytewise, bytewise}
 use Rattle.sheet.specs.Read.{placeCount}
-use Rattle.sheet.specs.Sheet.{Plan, scanFrom, planOf}
+use Rattle.sheet.specs.Sheet.{planOf, commandCount}
 use Rattle.sheet.specs.Work.{totalUnits}
 use Rattle.sheet.specs.SheetAnswer.{sheetAnswer}
-use Rattle.sheet.specs.Run.{steps, vectorsIn, vectorBytes, runVectors, runAnswer, runBytes}
-use Rattle.sheet.specs.Progress.{RunState, startingAt, stateAfter, remaining}
+use Rattle.sheet.specs.Run.{vectorsIn, vectorBytes, runVectors, runAnswer, runBytes}
+use Rattle.sheet.specs.Progress.{RunState, startingAt, stateAfter}
 use Rattle.sheet.specs.Start.{isStart, thenStart}
-use Rattle.sheet.proofs.Lent.{State, lent-state, state-length, vectors-bytes, bytes-vectors}
-use Rattle.sheet.proofs.Undoing.{invertible}
+use Rattle.sheet.proofs.Lent.{State, state-length, vectors-bytes, bytes-vectors}
 use Rattle.sheet.proofs.RoundTrip.{there-and-back, same-answer}
 use Rattle.sheet.proofs.SheetAnswer.{Passed, passes}
 use Rattle.sheet.proofs.Progress.{after-after, done, reaches}
-use Rattle.sheet.proofs.Start.{plan-remaining, suffix, reached-start, first-start, end-only}
+use Rattle.sheet.proofs.Start.{suffix, reached-start, first-start, end-only}
+use Rattle.sheet.proofs.FromStart.{state-after, offset-by, end-units, end-vectors}
 use Rattle.slice.specs.declared.SliceAnswer.the-variants.{Reached, Refused}
 use Rattle.slice.specs.Slice.{sliced, sliceTests, reachedBy, sliceBytes}
 use Rattle.slice.specs.Injective.{isReached}
-use Rattle.slice.specs.Chain.{ChainState, chainStart, nextAnswer, linked, nextState, chain, totalBudget, commandCount, ReachesStart, refused, reached}
+use Rattle.slice.specs.Chain.{ChainState, chainStart, nextAnswer, linked, nextState, chain, totalBudget, ReachesStart, refused, reached}
 use Rattle.slice.specs.Chain.{TwoSlices, CallsCompose, ChainRefused, ChainDone, ChainsRun, ChainReturns, ChainsReturn}
 use Rattle.slice.specs.Exact.{joined}
 use Rattle.slice.proofs.Tests.{start-done, RunPassed, SlicePassed, run-passed, tests-passed}
@@ -99,9 +96,7 @@ module _ (w : ℕ) (s : List ℕ) (hs : Bytes s) (i u : ℕ) (b : List ℕ) (hb 
   after k = stateAfter k w s (startingAt i v)
 
   state : (k : ℕ) → State placeCount w (after k .vectors)
-  state k =
-      subst (State placeCount w) (sym (done w s k (startingAt i v) .vectors))
-      (kept (invertible w width s hs placeCount Forward) (each (λ _. tt) (take k (remaining w s i))) v (lent-state w width b hb placeCount))
+  state k = state-after w width s hs b hb i k
 
   start-at : (k : ℕ) → isStart w s (after k .offset) ≡ true
   start-at k =
@@ -211,30 +206,18 @@ module _ (w : ℕ) (s b : List ℕ) (hs : Bytes s) (hb : Bytes b) (n : ℕ) (e :
   abbrev by : ℕ → RunState
   by k = stateAfter k w s (startingAt 0 (vectorsIn w b))
 
-  scanned : scanFrom (length s) w s 0 ≡ planOf w s
-  scanned = plan-remaining w s (run .sound)
-
-  offset-by : (k : ℕ) → by k .offset ≡ getD offsets k (length s)
-  offset-by k =
-      reaches w s k (startingAt 0 (vectorsIn w b)) (ap (λ (p : Plan). p .outcome) scanned ∙ run .sound) (omega arith)
-      ∙ ap (λ (p : Plan). getD (p .offsets) k (length s)) scanned
-
   module _ (k : ℕ) (all : commandCount w s ≤ k) where
-    everything : take k (remaining w s 0) ≡ offsets
-    everything = ap (λ (p : Plan). take k (p .offsets)) scanned ∙ take-all k offsets all
-
-    end-units : by k .units ≡ n
-    end-units =
+    all-units : by k .units ≡ n
+    all-units =
         let fit = eqb (length b) (placeCount * w) in
         let tests : Passed placeCount w fit s = record { width = run .known; operands = eq-eqb (length b) (placeCount * w) (run .size); sheet = run .sound } in
         let a : Answers.Done (totalUnits w s offsets) ≡ Answers.Done n = passes placeCount w fit s _ tests ∙ e in
         let t : totalUnits w s offsets ≡ n = cc in
-        done w s k (startingAt 0 (vectorsIn w b)) .units ∙ zero-add _ ∙ ap (totalUnits w s) everything ∙ t
+        end-units w s (vectorsIn w b) (run .sound) k all ∙ t
 
-    end-bytes : vectorBytes w (by k .vectors) ≡ runBytes Forward w s b
-    end-bytes =
-        let ran = done w s k (startingAt 0 (vectorsIn w b)) .vectors in
-        ap (vectorBytes w) (ran ∙ ap (λ (l : List ℕ). steps Forward w s l (vectorsIn w b)) everything)
+    all-bytes : vectorBytes w (by k .vectors) ≡ runBytes Forward w s b
+    all-bytes =
+        ap (vectorBytes w) (end-vectors w s (vectorsIn w b) (run .sound) k all)
         ∙ ap (λ (a : Answer). outcome a (vectorBytes w (runVectors Forward w s (vectorsIn w b))) b) (sym e)
 
   module _ (l : List ℕ) where
@@ -245,10 +228,10 @@ module _ (w : ℕ) (s b : List ℕ) (hs : Bytes s) (hb : Bytes b) (n : ℕ) (e :
     there l = chained w s hs 0 0 b hb n first l
 
     end-reached : commandCount w s ≤ k → chain w s l b .offset ≡ length s
-    end-reached h = ap (λ (c : ChainState). c .offset) (there l) ∙ offset-by k ∙ List·getD-eq-default offsets (length s) h
+    end-reached h = ap (λ (c : ChainState). c .offset) (there l) ∙ offset-by w s (vectorsIn w b) (run .sound) k ∙ List·getD-eq-default offsets (length s) h
 
     only-reached : chain w s l b .offset ≡ length s → commandCount w s ≤ k
-    only-reached h = end-only w s (run .sound) k (sym (offset-by k) ∙ sym (ap (λ (c : ChainState). c .offset) (there l)) ∙ h)
+    only-reached h = end-only w s (run .sound) k (sym (offset-by w s (vectorsIn w b) (run .sound) k) ∙ sym (ap (λ (c : ChainState). c .offset) (there l)) ∙ h)
 
     chain-done : ChainDone w s b l n
     chain-done =
@@ -258,8 +241,8 @@ module _ (w : ℕ) (s b : List ℕ) (hs : Bytes s) (hb : Bytes b) (n : ℕ) (e :
               (answers-from w s hs 0 0 b hb n first l 0);
           ends = end-reached;
           ends-only = only-reached;
-          units = λ h. ap (λ (c : ChainState). c .units) (there l) ∙ zero-add _ ∙ end-units k (only-reached h);
-          bytes = λ h. ap (λ (c : ChainState). c .bytes) (there l) ∙ end-bytes k (only-reached h);
+          units = λ h. ap (λ (c : ChainState). c .units) (there l) ∙ zero-add _ ∙ all-units k (only-reached h);
+          bytes = λ h. ap (λ (c : ChainState). c .bytes) (there l) ∙ all-bytes k (only-reached h);
           uncut = there l ∙ ap (λ (m : ℕ). asChain w s hs 0 0 b hb n first (by m)) (sym (total-one k)) ∙ sym (there (k ∷ []));
         }
 

@@ -11,7 +11,7 @@ use Rattle.answer.specs.Refuse.{isDone}
 use Rattle.invertible.specs.Invertible.{stepped, outputs, Each}
 use Rattle.invertible.specs.RoundTrip.{Forward, Backward}
 use Rattle.memory.specs.Bytes.{Bytes}
-use Rattle.sheet.specs.Sheet.{planOf}
+use Rattle.sheet.specs.Sheet.{commandCount}
 use Rattle.sheet.specs.Run.{runAnswer, runBytes}
 use Rattle.sheet.specs.Start.{isStart}
 use Rattle.slice.specs.declared.SliceAnswer.{SliceAnswer}
@@ -47,12 +47,9 @@ chain w s l b = stepped (nextState w s) l (chainStart b)
 abbrev pub chainAnswers : ℕ → List ℕ → List ℕ → List ℕ → List SliceAnswer
 chainAnswers w s l b = outputs (nextState w s) (nextAnswer w s) l (chainStart b)
 
--- the sum of the budgets, and the number of commands of a sheet without a fault
+-- the sum of the budgets
 abbrev pub totalBudget : List ℕ → ℕ
 totalBudget l = sum _+_ 0 l
-
-abbrev pub commandCount : ℕ → List ℕ → ℕ
-commandCount w s = length (planOf w s .offsets)
 
 -- a success whose offset is a start
 abbrev pub ReachesStart : ℕ → List ℕ → SliceAnswer → Type 0

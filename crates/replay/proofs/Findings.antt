@@ -1,0 +1,259 @@
+-- What a replay's answer says of its records.
+use mathlib.Core.Path.{_≡_, refl, sym, ap, ap₂, subst, _∙_}
+use mathlib.Core.Bool.{Bool, true, false, cond, true≢false, false≢true}
+use mathlib.Core.List.{List, [], _∷_, _++_}
+use Prim.Native.Nat.{ℕ, zero, suc, _+_, _*_, _/_, _%_, _-_, _≤_, _<_}
+use native.Mathlib.Nat.{suc-mul, mul-le-mul-right, zero-add, add-zero, suc-add}
+use native.Mathlib.Decide.{ℕ-discrete}
+use native.Mathlib.Omega.{arith}
+use borrow.Author.Tests.{eq-eqb, eqb-true, eqb-false}
+use lib.Dec.{eqb}
+use lib.ListN.{length, getD, take, List·getD-append}
+use lib.Seq.{take-all, getD-append-add}
+use Rattle.answer.specs.declared.Answer.{Answer}
+use Rattle.answer.specs.declared.Answer.the-variants as Answers
+use Rattle.answer.specs.Refuse.{isDone, outcome}
+use Rattle.answer.proofs.Refuse.{done-outcome}
+use Rattle.answer.proofs.Tests.{split}
+use Rattle.memory.specs.Bytes.{Bytes}
+use Rattle.quasigroup.proofs.Widths.{Bytewise, bytewise}
+use Rattle.sheet.specs.Read.{placeCount}
+use Rattle.sheet.specs.Sheet.{Sound, planOf, commandCount}
+use Rattle.sheet.specs.Effect.{at}
+use Rattle.sheet.specs.SheetAnswer.{sheetAnswer}
+use Rattle.sheet.specs.Run.{vectorsIn, vectorBytes, runAnswer}
+use Rattle.sheet.proofs.Lent.{State, state-from, state-length, vectors-bytes, bytes-of-vectors}
+use Rattle.sheet.proofs.SheetAnswer.{done-passed}
+use Rattle.sheet.proofs.FromStart.{state-after, offset-by, vectors-by, end-vectors}
+use Rattle.shuffle.specs.Shuffle.{recordLength, recordWords}
+use Rattle.shuffle.proofs.Widths.{records-within}
+use Rattle.replay.specs.declared.Finding.{Finding}
+use Rattle.replay.specs.declared.ReplayAnswer.{ReplayAnswer}
+use Rattle.replay.specs.declared.ReplayAnswer.the-variants.{Holds, FirstFalse, Refused}
+use Rattle.replay.specs.Replay.{stateBy, inRow, rowAt, recorded, replayed, agreeing, holds, findingAt, firstFalse, recordCount, recordTests, replayTests, answered}
+use Rattle.replay.specs.Findings.{recordWord, stateBytes, stateWord, IsTrue, AllTrue, Named, Says, ReplaysFind, RecordsApart, StatesAreRuns}
+use Rattle.replay.proofs.Agreeing.{at-most, same-before, differs-at, agree-self, agree-all}
+use Rattle.replay.proofs.Rows.{row-length, row-vectors, same-rows, same-bytes}
+
+-- ---- a word by its place and number
+
+in-row : (v : List (List ℕ)) → ((i : ℕ) → i < length v → length (at v i) ≡ 8) → (p n : ℕ) → p < length v → n < 8
+    → getD (inRow v) (p * 8 + n) 0 ≡ getD (at v p) n 0
+in-row [] h p n hp hn = absurd (omega arith)
+in-row (x ∷ v) h zero n hp hn =
+    let e : 0 * 8 + n ≡ n = omega arith in
+    ap (λ (i : ℕ). getD (x ++ inRow v) i 0) e ∙ List·getD-append x (inRow v) 0 n (omega (arith, h 0 (omega arith)))
+in-row (x ∷ v) h (suc p) n hp hn =
+    let e : suc p * 8 + n ≡ length x + (p * 8 + n) = omega (arith, h 0 (omega arith)) in
+    ap (λ (i : ℕ). getD (x ++ inRow v) i 0) e ∙ getD-append-add x (inRow v) (p * 8 + n) 0
+    ∙ in-row v (λ i l. h (suc i) (omega (arith, l))) p n (omega arith) hn
+
+word-in-row : {w : ℕ} {v : List (List ℕ)} → State placeCount w v → (p n : ℕ) → p < 8 → n < 8 → getD (inRow v) (p * 8 + n) 0 ≡ getD (at v p) n 0
+word-in-row {v = v} st p n hp hn = in-row v (λ i l. st .each i (omega (arith, l, st .size)) .size) p n (omega (arith, st .size)) hn
+
+-- ---- one record
+
+module _ (w : ℕ) (hw : Bytewise w) (s : List ℕ) (hs : Bytes s) (b : List ℕ) (hb : Bytes b) (j : ℕ) where
+  abbrev v : List (List ℕ)
+  v = stateBy w s b (suc j) .vectors
+
+  state : State placeCount w v
+  state = state-after w hw s hs b hb 0 (suc j)
+
+  replayed-row : replayed w s b j ≡ rowAt w (stateBytes w s b j) 0
+  replayed-row = ap inRow (sym (vectors-bytes w hw v state)) ∙ row-vectors w hw (stateBytes w s b j) 0
+
+  state-size : length (stateBytes w s b j) ≡ recordLength w
+  state-size = state-length w hw v state
+
+  state-whole : take (recordLength w) (stateBytes w s b j) ≡ stateBytes w s b j
+  state-whole = take-all (recordLength w) (stateBytes w s b j) (omega (arith, state-size))
+
+  replayed-length : length (replayed w s b j) ≡ recordWords
+  replayed-length = ap length replayed-row ∙ row-length w (stateBytes w s b j) 0
+
+  module _ (r : List ℕ) where
+    abbrev x : List ℕ
+    x = recorded w r j
+
+    abbrev y : List ℕ
+    y = replayed w s b j
+
+    x-length : length x ≡ recordWords
+    x-length = row-length w r (j * recordLength w)
+
+    same-length : length x ≡ length y
+    same-length = x-length ∙ sym replayed-length
+
+    true-holds : IsTrue w s b r j → holds x y ≡ true
+    true-holds e =
+        let same : x ≡ y = same-rows w hw r (j * recordLength w) (stateBytes w s b j) 0 (e ∙ sym state-whole) ∙ sym replayed-row in
+        eq-eqb (agreeing x y) recordWords (ap (agreeing x) (sym same) ∙ agree-self x ∙ x-length)
+
+    module _ (hr : Bytes r) (h : j < recordCount w r) where
+      within : j * recordLength w + recordLength w ≤ length r
+      within =
+          omega (arith, records-within (recordLength w) r, suc-mul j (recordLength w), mul-le-mul-right {m = suc j} {n = recordCount w r} (recordLength w) (omega (arith, h)))
+
+      holds-true : holds x y ≡ true → IsTrue w s b r j
+      holds-true t =
+          let same : x ≡ y = agree-all x y same-length (eqb-true (agreeing x y) recordWords t ∙ sym x-length) in
+          same-bytes w hw r (j * recordLength w) (stateBytes w s b j) 0 hr (bytes-of-vectors w hw v) within (omega (arith, state-size)) (same ∙ replayed-row)
+          ∙ state-whole
+
+      recorded-word : (p n : ℕ) → p < 8 → n < 8 → getD x (p * 8 + n) 0 ≡ recordWord w r j p n
+      recorded-word p n hp hn =
+          ap (λ (l : List ℕ). getD l (p * 8 + n) 0) (sym (row-vectors w hw r (j * recordLength w)))
+          ∙ word-in-row (state-from w hw r hr placeCount (j * recordLength w)) p n hp hn
+
+      replayed-word : (p n : ℕ) → p < 8 → n < 8 → getD y (p * 8 + n) 0 ≡ stateWord w s b j p n
+      replayed-word = word-in-row state
+
+      -- the first word that differs
+      module _ (f : holds x y ≡ false) where
+        abbrev i : ℕ
+        i = agreeing x y
+
+        i-below : i < 64
+        i-below = let ne : i ≡ 64 → ⊥ = eqb-false i recordWords f in omega (arith, ne, at-most x y, x-length)
+
+        parts : i ≡ i / 8 * 8 + i % 8
+        parts = omega arith
+
+        same-at : (p n : ℕ) → p < 8 → n < 8 → p * 8 + n < i → recordWord w r j p n ≡ stateWord w s b j p n
+        same-at p n hp hn l = sym (recorded-word p n hp hn) ∙ same-before x y (p * 8 + n) l ∙ replayed-word p n hp hn
+
+        named : planOf w s .outcome ≡ Sound → ((k : ℕ) → k < j → IsTrue w s b r k) → Named w s b r j (findingAt (stateBy w s b j .offset) x y i)
+        named sound before =
+            let p : i / 8 < 8 = omega (arith, i-below) in
+            let n : i % 8 < 8 = omega arith in
+            record {
+              within = h;
+              false = λ e. true≢false (sym (true-holds e) ∙ f);
+              before = before;
+              offset = offset-by w s (vectorsIn w b) sound j;
+              place = p;
+              word = n;
+              found = ap (λ (k : ℕ). getD x k 0) parts ∙ recorded-word (i / 8) (i % 8) p n;
+              expected = ap (λ (k : ℕ). getD y k 0) parts ∙ replayed-word (i / 8) (i % 8) p n;
+              differ = differs-at x y same-length (omega (arith, i-below, x-length));
+              places-before = λ q m hq hm. same-at q m (omega (arith, hq, p)) hm (omega (arith, hq, hm));
+              words-before = λ m hm. same-at (i / 8) m p (omega (arith, hm, n)) (omega (arith, hm));
+            }
+
+-- ---- all of them
+
+module _ (w : ℕ) (hw : Bytewise w) (s : List ℕ) (hs : Bytes s) (b : List ℕ) (hb : Bytes b) (r : List ℕ) where
+  -- what is told of a record that does not hold
+  abbrev told : ℕ → Finding
+  told k = findingAt (stateBy w s b k .offset) (recorded w r k) (replayed w s b k) (agreeing (recorded w r k) (replayed w s b k))
+
+  -- up to k and one more
+  up-to : (k : ℕ) → ((i : ℕ) → i < k → IsTrue w s b r i) → IsTrue w s b r k → (i : ℕ) → i < suc k → Dec (i ≡ k) → IsTrue w s b r i
+  up-to k h e i l (yes p) = subst (IsTrue w s b r) (sym p) e
+  up-to k h e i l (no q) = h i (omega (arith, q))
+
+  says-from : Bytes r → planOf w s .outcome ≡ Sound → (n k : ℕ) → k + n ≡ recordCount w r → ((i : ℕ) → i < k → IsTrue w s b r i)
+      → Says w s b r (firstFalse n w s b r k)
+  says-from hr sound zero k e h = λ j l. h j (omega (arith, l))
+  says-from hr sound (suc n) k e h =
+      let l : k < recordCount w r = omega arith in
+      split (Says w s b r) (holds (recorded w r k) (replayed w s b k)) _ _
+      (λ t.
+      let now = holds-true w hw s hs b hb k r hr l t in
+      says-from hr sound n (suc k) (omega arith) (λ i m. up-to k h now i m (ℕ-discrete i k)))
+      (λ f. (k, refl, named w hw s hs b hb k r hr l f sound h))
+
+  holds-from : AllTrue w s b r → (n k : ℕ) → k + n ≡ recordCount w r → firstFalse n w s b r k ≡ Holds
+  holds-from h zero k e = refl
+  holds-from h (suc n) k e =
+      ap (λ (t : Bool). cond t (firstFalse n w s b r (suc k)) (FirstFalse (suc k) (told k))) (true-holds w hw s hs b hb k r (h k (omega arith)))
+      ∙ holds-from h n (suc k) (omega arith)
+
+  -- k records from the one with m before it hold
+  skip : (k m n : ℕ) → ((i : ℕ) → i < m + k → IsTrue w s b r i) → firstFalse (k + n) w s b r m ≡ firstFalse n w s b r (m + k)
+  skip zero m n h = ap₂ {C = ReplayAnswer} (λ n m. firstFalse n w s b r m) (zero-add n) (sym (add-zero m))
+  skip (suc k) m n h =
+      let e : suc m + k ≡ m + suc k = omega arith in
+      ap (λ (n : ℕ). firstFalse n w s b r m) (suc-add k n)
+      ∙ ap (λ (t : Bool). cond t (firstFalse (k + n) w s b r (suc m)) (FirstFalse (suc m) (told m))) (true-holds w hw s hs b hb m r (h m (omega arith)))
+      ∙ skip k (suc m) n (λ i l. h i (omega (arith, l))) ∙ ap (firstFalse n w s b r) e
+
+-- the same records from some number on
+alike : (w : ℕ) (s b r q : List ℕ) (n k : ℕ) → ((i : ℕ) → k ≤ i → recorded w q i ≡ recorded w r i) → firstFalse n w s b q k ≡ firstFalse n w s b r k
+alike w s b r q zero k h = refl
+alike w s b r q (suc n) k h =
+    let e = h k (omega arith) in
+    ap₂ {C = ReplayAnswer} (λ x rest. cond (holds x (replayed w s b k)) rest
+    (FirstFalse (suc k) (findingAt (stateBy w s b k .offset) x (replayed w s b k) (agreeing x (replayed w s b k))))) e
+    (alike w s b r q n (suc k) (λ i l. h i (omega (arith, l))))
+
+-- ---- behind the tests
+
+module _ (w : ℕ) (s b r : List ℕ) (t : isDone (replayTests w s b r) ≡ true) where
+  known : Bytewise w
+  known = bytewise w (done-passed placeCount w _ s _ t .width)
+
+  sound : planOf w s .outcome ≡ Sound
+  sound = done-passed placeCount w _ s _ t .sheet
+
+done-answer : (a : Answer) (x : ReplayAnswer) → isDone a ≡ true → answered a x ≡ x
+done-answer (Answers.Done n) x e = refl
+done-answer (Answers.Refused q i) x e = absurd (false≢true e)
+
+says-by : (w : ℕ) (s b r : List ℕ) → Bytes s → Bytes b → Bytes r → (a : Answer) → replayTests w s b r ≡ a
+    → Says w s b r (answered a (firstFalse (recordCount w r) w s b r 0))
+says-by w s b r hs hb hr (Answers.Refused q i) e = e
+says-by w s b r hs hb hr (Answers.Done n) e =
+    let t = ap isDone e in
+    says-from w (known w s b r t) s hs b hb r hr (sound w s b r t) (recordCount w r) 0 (zero-add (recordCount w r)) (λ i l. absurd (omega (arith, l)))
+
+pub replays-find : ReplaysFind
+replays-find w s b r hs hb hr =
+    record {
+      says = says-by w s b r hs hb hr (replayTests w s b r) refl;
+      holds = λ t h.
+          done-answer (replayTests w s b r) (firstFalse (recordCount w r) w s b r 0) t
+          ∙ holds-from w (known w s b r t) s hs b hb r h (recordCount w r) 0 (zero-add (recordCount w r));
+    }
+
+-- ---- a false record by itself
+
+not-refused : (a : Answer) (x : ReplayAnswer) (n : ℕ) (f : Finding) → answered a x ≡ FirstFalse n f → isDone a ≡ true
+not-refused (Answers.Done m) x n f e = refl
+not-refused (Answers.Refused q i) x n f e = let z : _≡_ {A = ℕ} 0 1 = cc in absurd (omega arith)
+
+the-named : (w : ℕ) (s b r : List ℕ) (j : ℕ) (f : Finding) → Says w s b r (FirstFalse (suc j) f) → Named w s b r j f
+the-named w s b r j f h = let e : h .0 ≡ j = omega (arith, h .1) in subst (λ (i : ℕ). Named w s b r i f) e (h .2)
+
+pub records-apart : RecordsApart
+records-apart w s b r q j f hs hb hr e l same now =
+    let first = firstFalse (recordCount w r) w s b r 0 in
+    let t = not-refused (replayTests w s b r) first (suc j) f e in
+    let hw = known w s b r t in
+    let named = the-named w s b r j f (subst (Says w s b r) e (replays-find w s b r hs hb hr .says)) in
+    let n = recordCount w r - suc j in
+    let count : recordCount w q ≡ suc j + n = ap (λ (m : ℕ). m / recordLength w) l ∙ omega (arith, named .within) in
+    let start : 0 + suc j ≡ suc j = omega arith in
+    let before : (i : ℕ) → i < 0 + suc j → IsTrue w s b q i = λ i h.
+    up-to w hw s hs b hb q j (λ i h. same i (λ p. omega (arith, p, h)) ∙ named .before i h) now i (omega (arith, h)) (ℕ-discrete i j) in
+    let rows : (i : ℕ) → suc j ≤ i → recorded w q i ≡ recorded w r i = λ i h.
+    same-rows w hw q (i * recordLength w) r (i * recordLength w) (same i (λ p. omega (arith, p, h))) in
+    done-answer (replayTests w s b q) (firstFalse (recordCount w q) w s b q 0)
+    (ap (λ (m : ℕ). isDone (sheetAnswer w (eqb (length b) (placeCount * w)) s (recordTests w m (commandCount w s)))) l ∙ t)
+    ∙ ap (λ (m : ℕ). firstFalse m w s b q 0) count
+    ∙ skip w hw s hs b hb q (suc j) 0 n before
+    ∙ ap (firstFalse n w s b q) start
+    ∙ alike w s b r q n (suc j) rows
+
+-- ---- the states
+
+pub states-are-runs : StatesAreRuns
+states-are-runs w s b t =
+    let p = done-passed placeCount w _ s _ t in
+    record {
+      some = vectors-by w s (vectorsIn w b) (p .sheet);
+      all =
+          ap (vectorBytes w) (end-vectors w s (vectorsIn w b) (p .sheet) (commandCount w s) (omega arith))
+          ∙ done-outcome (runAnswer w s b) _ b t;
+    }

@@ -1,0 +1,5 @@
+pub mod Replay
+pub mod Number
+pub mod Findings
+pub mod Refusals
+pub mod Injective

@@ -1,0 +1,92 @@
+// Replays: the commands of a recorded run are done again, and each record is held against the state that they lead to.
+ghost use mathlib.Core.Path.{_≡_};
+ghost use mathlib.Core.Bool.{true};
+ghost use Prim.Native.Nat.{_%_};
+ghost use lib.ListN.{length};
+ghost use Rattle.quasigroup.specs.Tables.{knownWidth};
+ghost use Rattle.shuffle.specs.Shuffle.{recordLength};
+ghost use Rattle.replay.specs.Replay.{recordCount, firstFalse, recordTests, replayAnswer};
+use answer::Answer;
+use answer::Refusal;
+use replay::ReplayAnswer;
+use sheet::Summary;
+
+// The first false record. `state` is lent with the starting vectors, and goes from one command to the next.
+fn replay(width: u32, sheet: &[u8], records: &[u8], state: &mut [u8]) -> ReplayAnswer
+    requires { ⌜ (knownWidth width ≡ true) × (length (now state) ≡ recordLength width) × (length (now records) % recordLength width ≡ 0) ⌝ }
+    ensures { λ r. let l = now (records .entry) in ⌜ r ≡ firstFalse (recordCount width l) width (now (sheet .entry)) (now (state .entry)) l 0 ⌝ }
+{
+    let size = state.len();
+    let mut number: u64 = 1;
+    let mut offset: usize = 0;
+    let mut from: usize = 0;
+    while from < records.len() {
+        let p = stepper::advance(width, sheet, offset, 1, state);
+        let next = p.offset;
+        if !comparison::record_holds(width, state, records, from) {
+            let finding = comparison::finding(width, offset, state, records, from);
+            return ReplayAnswer::FirstFalse(number, finding);
+        }
+        number += 1;
+        offset = next;
+        from += size;
+    }
+    ReplayAnswer::Holds
+}
+
+// What the tests of `n` bytes of records answer, of a sheet with `commands` commands.
+fn records_answer(width: u32, n: usize, commands: usize) -> Answer
+    requires { ⌜ knownWidth width ≡ true ⌝ }
+    ensures { λ r. ⌜ r ≡ recordTests width n commands ⌝ }
+{
+    let size = 8 * (width as usize);
+    if n % size != 0 {
+        return Answer::Refused(Refusal::Records, 0);
+    }
+    if commands < n / size {
+        return Answer::Refused(Refusal::RecordCount, 0);
+    }
+    Answer::Done(0)
+}
+
+// A replay at a width of document 01's, with a state of as many bytes as the vectors have.
+fn replay_at(
+    width: u32,
+    vectors: &[u8],
+    sheet: &[u8],
+    records: &[u8],
+    state: &mut [u8],
+) -> ReplayAnswer
+    requires { ⌜ (knownWidth width ≡ true) × (length (now state) ≡ recordLength width) ⌝ }
+    ensures { λ r. ⌜ r ≡ replayAnswer width (now (sheet .entry)) (now (vectors .entry)) (now (records .entry)) ⌝ }
+{
+    if !precheck::vectors_fit(width, vectors.len()) {
+        return ReplayAnswer::Refused(Refusal::Operand, 0);
+    }
+    let mut none = [0u16; 0];
+    match scanner::check(width, sheet, &mut none) {
+        Summary::Whole(commands, _) => match records_answer(width, records.len(), commands) {
+            Answer::Done(_) => {
+                memory::copy_at(state, 0, vectors);
+                replay(width, sheet, records, state)
+            }
+            Answer::Refused(r, at) => ReplayAnswer::Refused(r, at),
+        },
+        Summary::Faulty(r, at) => ReplayAnswer::Refused(r, at),
+    }
+}
+
+// The first false record of a run of the sheet over the vectors, all of which stay as they are.
+pub fn first_false_record(width: u32, vectors: &[u8], sheet: &[u8], records: &[u8]) -> ReplayAnswer
+    ensures { λ r. ⌜ r ≡ replayAnswer width (now (sheet .entry)) (now (vectors .entry)) (now (records .entry)) ⌝ }
+{
+    if width == 32 {
+        let mut state = [0u8; 256];
+        return replay_at(32, vectors, sheet, records, &mut state);
+    }
+    if width == 64 {
+        let mut state = [0u8; 512];
+        return replay_at(64, vectors, sheet, records, &mut state);
+    }
+    ReplayAnswer::Refused(Refusal::Width, 0)
+}
