@@ -34,6 +34,7 @@ static const struct {
     {'C', bench_inverse_sheets},
     {'E', bench_blocks},
     {'F', bench_shuffle},
+    {'F', bench_replay},
 };
 
 static double run_once(const struct work *work)

@@ -25,5 +25,6 @@ void bench_slices(void);
 void bench_inverse_sheets(void);
 void bench_blocks(void);
 void bench_shuffle(void);
+void bench_replay(void);
 
 #endif

@@ -12,6 +12,7 @@
 #include "harness/lent.h"
 #include "harness/product_call.h"
 #include "harness/random.h"
+#include "harness/replay_call.h"
 #include "harness/run_call.h"
 #include "harness/shuffle_call.h"
 #include "harness/slice_call.h"
@@ -129,6 +130,24 @@ static void compare_shuffles(void)
     }
 }
 
+/* Without records every one holds; without a sheet there are too many of them. */
+static void compare_replays(void)
+{
+    check_group("replays");
+    for (unsigned n = 0; n < 4 * 8 * 3; n++) {
+        uint32_t width = widths[n % 4];
+        size_t len = width == 64 ? VECTORS_64 : VECTORS_32;
+        struct replay replay = {width,
+                                bytes,
+                                buffer_len(n / 4, 0, len),
+                                flips,
+                                buffer_len(n / 4, 1, sizeof flips),
+                                bytes,
+                                buffer_len(n / 4, 2, n / 32 == 0 ? 1 : n / 32 * len / 2)};
+        check_replay_call(&replay, NULL);
+    }
+}
+
 /* From an opened state and from made-up ones, in form and not. */
 static void compare_pieces(enum kind kind)
 {
@@ -216,6 +235,30 @@ static void check_shuffle_points(void)
     }
 }
 
+static void check_replay_points(void)
+{
+    uint8_t vectors[VECTORS_32] = {0}, records[RECORD_32] = {0};
+    struct edonr_finding f;
+    check_group("answers of replays as numbers");
+    check(edonr_first_false_record(32, vectors, VECTORS_32, NULL, 0, NULL, 0, &f) == 0,
+          "neither sheet nor records");
+    check(edonr_first_false_record(32, vectors, VECTORS_32, flips, 4, NULL, 0, &f) == 0,
+          "no records");
+    check(edonr_first_false_record(32, vectors, VECTORS_32, NULL, 0, records, RECORD_32,
+                                   &f) == REFUSED(17),
+          "a record and no sheet");
+    check(edonr_first_false_record(32, vectors, VECTORS_32, NULL, 0, records, 1, &f) ==
+              REFUSED(16),
+          "a byte and no sheet");
+    check(edonr_first_false_record(32, NULL, 0, flips, 4, records, RECORD_32, &f) ==
+              REFUSED(6),
+          "no vectors");
+    check(edonr_first_false_record(64, NULL, 0, NULL, 0, NULL, 0, &f) == REFUSED(6),
+          "nothing at all");
+    check(edonr_first_false_record(33, NULL, 0, NULL, 0, NULL, 0, &f) == REFUSED(5),
+          "nothing, at no width");
+}
+
 int main(int argc, char **argv)
 {
     check_program("compare_null", argc, argv);
@@ -229,10 +272,12 @@ int main(int argc, char **argv)
     compare_inverse_sheets();
     compare_steps();
     compare_shuffles();
+    compare_replays();
     for (enum kind kind = NARROW; kind < KINDS; kind++)
         compare_pieces(kind);
     check_points();
     check_sheet_points();
     check_shuffle_points();
+    check_replay_points();
     return check_finish();
 }

@@ -1,5 +1,5 @@
 /*
- * fuzz [rounds]: all eighteen calls with random arguments, sound, nearly sound and
+ * fuzz [rounds]: all nineteen calls with random arguments, sound, nearly sound and
  * nonsense, each compared with the reference. The number of rounds is fixed, so that two
  * runs from one seed are the same.
  */
@@ -15,6 +15,8 @@
 #include "harness/inverse_sheet_call.h"
 #include "harness/product_call.h"
 #include "harness/random.h"
+#include "harness/recording.h"
+#include "harness/replay_call.h"
 #include "harness/run_call.h"
 #include "harness/sheet_maker.h"
 #include "harness/shuffle_call.h"
@@ -29,7 +31,7 @@ enum {
     MOST_MESSAGE = 1 << 16,
     MOST_OUT = 200,
     MOST_FUZZED = 16, /* records */
-    CALLS = 18
+    CALLS = 19
 };
 
 static uint8_t bytes[MOST_MESSAGE];
@@ -235,6 +237,42 @@ static bool fuzz_shuffle(enum direction direction)
     return is_marked_refusal(check_shuffle_call(&call, NULL));
 }
 
+/* Records of the first commands of a sheet, as they were or damaged once or twice. */
+static void fuzz_recording(uint32_t width, const uint8_t *vectors,
+                           const struct sheet *sheet, size_t count, uint8_t *records)
+{
+    record_run(width, vectors, sheet, count, records);
+    for (uint64_t damages = random_below(3); damages > 0; damages--)
+        damage_records(width, records, count);
+}
+
+/* Mostly the records of a sheet that is sound. Lengths over those that are lent here are
+   claimed only: they are refused, since no sheet has as many commands. */
+static bool fuzz_replay(void)
+{
+    static struct sheet sheet;
+    static uint8_t vectors[RUN_CALL_VECTORS], records[MOST_FUZZED * RECORD_64];
+    uint32_t width = random_below(2) == 0 ? 32 : 64;
+    size_t one = EDONR_PLACES * (size_t)width, len = (size_t)random_below(150);
+    make_sheet(width, len == 1 ? 0 : len, &sheet);
+    size_t most = sheet.count < MOST_FUZZED ? sheet.count : MOST_FUZZED;
+    size_t count = random_below(4) == 0 ? (size_t)random_below(most + 1) : most;
+    random_pattern(vectors, one);
+    fuzz_recording(width, vectors, &sheet, count, records);
+    if (random_below(8) == 0)
+        damage_sheet(&sheet);
+    struct replay replay = {width, vectors, one, sheet.bytes, sheet.len, records, 0};
+    replay.width = (uint32_t)fuzz_number(width);
+    replay.records_len = (size_t)fuzz_number(count * one);
+    if (replay.records_len > sizeof records && replay.records_len <= REPLAY_CALL_RECORDS)
+        replay.records_len += (size_t)1 << 32;
+    if (random_below(8) == 0)
+        replay.vectors_len = (size_t)fuzz_number(one);
+    if (random_below(64) == 0)
+        replay.sheet_len = (size_t)fuzz_claim();
+    return is_refusal(check_replay_call(&replay, NULL));
+}
+
 static bool fuzz_call(unsigned call)
 {
     enum kind kind = call % 2 == 0 ? NARROW : WIDE;
@@ -256,7 +294,8 @@ static bool fuzz_call(unsigned call)
     case 14: return fuzz_inverse_sheet();
     case 15: return fuzz_slice();
     case 16: return fuzz_shuffle(FORWARD);
-    default: return fuzz_shuffle(BACKWARD);
+    case 17: return fuzz_shuffle(BACKWARD);
+    default: return fuzz_replay();
     }
 }
 
@@ -267,14 +306,14 @@ int main(int argc, char **argv)
         "forward run",    "backward run",  "narrow opening", "wide opening",
         "narrow feeding", "wide feeding",  "narrow finish",  "wide finish",
         "forward step",   "backward step", "inverse sheet",  "slice",
-        "shuffle",        "unshuffle",
+        "shuffle",        "unshuffle",     "replay",
     };
     unsigned long calls[CALLS] = {0}, refused[CALLS] = {0};
     int argument = check_program("fuzz", argc, argv);
     unsigned long rounds =
         argument < argc ? strtoul(argv[argument], NULL, 10) : DEFAULT_ROUNDS;
     reference_init();
-    check_group("eighteen calls with random arguments");
+    check_group("nineteen calls with random arguments");
     for (unsigned long round = 0; round < rounds; round++) {
         unsigned call = (unsigned)random_below(CALLS);
         calls[call]++;

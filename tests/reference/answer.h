@@ -22,7 +22,8 @@ enum refusal {
     BAD_PLACE = 10,
     SAME_PLACE = 11,
     BAD_START = 14,
-    BAD_RECORDS = 16
+    BAD_RECORDS = 16,
+    TOO_MANY_RECORDS = 17
 };
 
 /* The most bytes of one message. */

@@ -1,7 +1,7 @@
 /*
  * Runs of a sheet over PLACES vectors, which is defined before this is included: by sheet.c
- * as 8, and by former_sheet.c as 4. The number is a constant to the compiler, as it is in
- * the archive.
+ * and replay.c as 8, and by former_sheet.c as 4. The number is a constant to the compiler,
+ * as it is in the archive.
  */
 #include <stdbool.h>
 #include <stddef.h>
@@ -107,8 +107,9 @@ static uint64_t run_commands(enum direction direction, uint32_t width, uint8_t *
                        : run_64(direction, vectors, sheet, at, count);
 }
 
-static uint64_t run(enum direction direction, uint32_t width, uint8_t *vectors,
-                    size_t vectors_len, const uint8_t *sheet, size_t sheet_len)
+/* In line, so that replay.c, which has no use for it, compiles without a warning. */
+static inline uint64_t run(enum direction direction, uint32_t width, uint8_t *vectors,
+                           size_t vectors_len, const uint8_t *sheet, size_t sheet_len)
 {
     struct offsets offsets;
     uint64_t refusal = check_run(width, vectors_len, sheet, sheet_len, &offsets);

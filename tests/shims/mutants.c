@@ -1,7 +1,7 @@
 /*
  * Wrong archives: each call passes on to the archive's own, but for what the chosen mutant
  * does wrong. To be compiled with -DMUTANT=name, a name of the list below, and linked with
- * --wrap of all eighteen calls, so that the comparisons meet it in the archive's place.
+ * --wrap of all nineteen calls, so that the comparisons meet it in the archive's place.
  */
 #include <stdbool.h>
 #include <string.h>
@@ -187,7 +187,63 @@ enum mutant {
     shuffle_length_by_32_bits,
     shuffle_output_by_32_bits,
     shuffle_index_by_32_bits,
-    shuffle_without_pointer
+    shuffle_without_pointer,
+    replay_always_refused,
+    replay_answers_0,
+    replay_idles,
+    replay_undoes,
+    replay_one_command_less,
+    replay_one_command_more,
+    replay_of_last_commands,
+    replay_of_changed_place,
+    replay_lower_places,
+    replay_loses_last_word,
+    replay_words_by_32_bits,
+    replay_by_xor,
+    replay_of_1024,
+    replay_loses_first,
+    replay_loses_last,
+    replay_last_false,
+    replay_last_word,
+    replay_by_word_and_place,
+    replay_numbers_from_0,
+    replay_numbers_by_units,
+    replay_number_by_8_bits,
+    replay_offset_lost,
+    replay_offset_behind,
+    replay_offset_by_11_bits,
+    replay_place_exchanged,
+    replay_word_of_64,
+    replay_words_exchanged,
+    replay_found_by_32_bits,
+    replay_expected_by_32_bits,
+    replay_upper_halves_left,
+    replay_finding_lost,
+    replay_finding_short,
+    replay_true_writes,
+    replay_refused_writes,
+    replay_moves_vectors,
+    replay_changes_sheet,
+    replay_changes_records,
+    replay_records_before_lengths,
+    replay_records_before_faults,
+    replay_count_before_faults,
+    replay_count_before_records,
+    replay_checks_as_it_runs,
+    replay_false_before_faults,
+    replay_count_told,
+    replay_full_refused,
+    replay_fewer_refused,
+    replay_over_units_refused,
+    replay_none_refused,
+    replay_takes_more,
+    replay_takes_any_length,
+    replay_width_by_16_bits,
+    replay_vectors_by_32_bits,
+    replay_sheet_by_32_bits,
+    replay_records_by_32_bits,
+    replay_without_sheet,
+    replay_without_records
 };
 
 #define IS(name) (MUTANT == (name))
@@ -1124,4 +1180,303 @@ SHUFFLE(WRAP(unshuffle))
 {
     bool backward = !IS(shuffle_directions_exchanged) && !IS(unshuffle_is_shuffle);
     return shuffle((struct shuffle){backward, width, records, records_len, out, out_len});
+}
+
+/* ---------------- replays ---------------- */
+
+#define REPLAY(name)                                                                       \
+    uint64_t name(uint32_t width, const uint8_t *vectors, size_t vectors_len,              \
+                  const uint8_t *sheet, size_t sheet_len, const uint8_t *records,          \
+                  size_t records_len, struct edonr_finding *finding)
+
+REPLAY(REAL(first_false_record));
+
+struct replay {
+    uint32_t width;
+    const uint8_t *vectors;
+    size_t vectors_len;
+    const uint8_t *sheet;
+    size_t sheet_len;
+    const uint8_t *records;
+    size_t records_len;
+    struct edonr_finding *finding;
+};
+
+static uint64_t do_replay(struct replay r)
+{
+    return REAL(first_false_record)(r.width, r.vectors, r.vectors_len, r.sheet, r.sheet_len,
+                                    r.records, r.records_len, r.finding);
+}
+
+/* What a replay would answer, with nothing written. */
+static uint64_t answer_of_replay(struct replay r)
+{
+    struct edonr_finding unused;
+    r.finding = &unused;
+    return do_replay(r);
+}
+
+static uint64_t word_of(uint32_t width, const uint8_t *record, size_t word)
+{
+    uint64_t value = 0;
+    memcpy(&value, record + word * (width / 8), width / 8);
+    return value;
+}
+
+/* Whether a word of a record, by its number of 64, is seen to differ from the state's. */
+static bool differs(const struct replay *r, const uint8_t *command, const uint8_t *record,
+                    const uint8_t *state, size_t word)
+{
+    uint64_t found = word_of(r->width, record, word);
+    uint64_t expected = word_of(r->width, state, word);
+    size_t place = word / VECTOR_WORDS;
+    bool is_changed = place == command[1] || (command[0] == 5 && place == command[2]);
+    if ((IS(replay_of_changed_place) && !is_changed) ||
+        (IS(replay_lower_places) && place > 3) ||
+        (IS(replay_loses_last_word) && word == RECORD_WORDS - 1))
+        return false;
+    return IS(replay_words_by_32_bits) ? (uint32_t)found != (uint32_t)expected
+                                       : found != expected;
+}
+
+/* The word of a record that is told, by its number of 64; 64 if none differs. */
+static size_t other_word(const struct replay *r, const uint8_t *command,
+                         const uint8_t *record, const uint8_t *state)
+{
+    size_t told = RECORD_WORDS;
+    for (size_t i = 0; i < RECORD_WORDS; i++) {
+        size_t word = IS(replay_by_word_and_place)
+                          ? i % EDONR_PLACES * VECTOR_WORDS + i / EDONR_PLACES
+                          : i;
+        if ((told == RECORD_WORDS || IS(replay_last_word)) &&
+            differs(r, command, record, state, word))
+            told = word;
+    }
+    return told;
+}
+
+/* The state that a record is held against, by its number from 0. */
+static void other_state(const struct replay *r, size_t number, uint8_t *state)
+{
+    size_t one = record_len(r->width), end = number + 1;
+    size_t commands = (size_t)count_commands(r->width, r->sheet, r->sheet_len, 0);
+    memcpy(state, r->vectors, one);
+    if (IS(replay_idles))
+        return;
+    if (IS(replay_one_command_less))
+        end = number;
+    if (IS(replay_one_command_more) && end < commands)
+        end++;
+    if (IS(replay_of_last_commands))
+        end += commands - r->records_len / one;
+    run_function *real = IS(replay_undoes) ? REAL(run_backward) : REAL(run_forward);
+    real(r->width, state, one, r->sheet, offset_of(r->width, r->sheet, end));
+}
+
+static uint64_t xor_of_words(uint32_t width, const uint8_t *record)
+{
+    uint64_t sum = 0;
+    for (size_t word = 0; word < RECORD_WORDS; word++)
+        sum ^= word_of(width, record, word);
+    return sum;
+}
+
+/* Holds a record against another state, or sees another of its words. */
+static bool is_false_otherwise(const struct replay *r, size_t number)
+{
+    uint8_t state[EDONR_PLACES * 64];
+    size_t at = offset_of(r->width, r->sheet, number);
+    const uint8_t *record = r->records + number * record_len(r->width);
+    other_state(r, number, state);
+    size_t word = other_word(r, r->sheet + at, record, state);
+    if (word == RECORD_WORDS || (IS(replay_loses_first) && number == 0) ||
+        (IS(replay_by_xor) &&
+         xor_of_words(r->width, record) == xor_of_words(r->width, state)))
+        return false;
+    *r->finding = (struct edonr_finding){at, word / VECTOR_WORDS, word % VECTOR_WORDS,
+                                         word_of(r->width, record, word),
+                                         word_of(r->width, state, word)};
+    return true;
+}
+
+static uint64_t replay_otherwise(const struct replay *r)
+{
+    size_t count = r->records_len / record_len(r->width);
+    uint64_t named = 0;
+    for (size_t number = 0; number < count; number++)
+        if ((named == 0 || IS(replay_last_false)) && is_false_otherwise(r, number))
+            named = number + 1;
+    return named;
+}
+
+static bool has_other_replay(void)
+{
+    return IS(replay_idles) || IS(replay_undoes) || IS(replay_one_command_less) ||
+           IS(replay_one_command_more) || IS(replay_of_last_commands) ||
+           IS(replay_of_changed_place) || IS(replay_lower_places) ||
+           IS(replay_loses_last_word) || IS(replay_words_by_32_bits) || IS(replay_by_xor) ||
+           IS(replay_loses_first) || IS(replay_last_false) || IS(replay_last_word) ||
+           IS(replay_by_word_and_place);
+}
+
+/* What is told beside a false record, of what was found, and of what lay there before. */
+static struct edonr_finding other_finding(const struct replay *r, struct edonr_finding f,
+                                          struct edonr_finding before)
+{
+    struct edonr_finding other = f;
+    if (IS(replay_offset_lost))
+        other.offset = 0;
+    if (IS(replay_offset_behind))
+        other.offset += command_len(r->width, r->sheet[f.offset]);
+    if (IS(replay_offset_by_11_bits))
+        other.offset &= 0x7FF;
+    if (IS(replay_place_exchanged)) {
+        other.place = f.word;
+        other.word = f.place;
+    }
+    if (IS(replay_word_of_64))
+        other.word += VECTOR_WORDS * f.place;
+    if (IS(replay_words_exchanged)) {
+        other.found = f.expected;
+        other.expected = f.found;
+    }
+    if (IS(replay_found_by_32_bits))
+        other.found = (uint32_t)f.found;
+    if (IS(replay_expected_by_32_bits))
+        other.expected = (uint32_t)f.expected;
+    if (IS(replay_upper_halves_left) && r->width == 32) {
+        other.found += before.found >> 32 << 32;
+        other.expected += before.expected >> 32 << 32;
+    }
+    if (IS(replay_finding_short))
+        other.expected = before.expected;
+    return IS(replay_finding_lost) ? before : other;
+}
+
+/* The number of a false record that is answered. */
+static uint64_t other_number(const struct replay *r, uint64_t number)
+{
+    size_t end = offset_of(r->width, r->sheet, (size_t)number);
+    if (IS(replay_numbers_by_units))
+        return answer_of(REAL(run_forward), r->width, r->vectors_len, r->sheet, end);
+    if (IS(replay_number_by_8_bits))
+        return number & 0xFF;
+    return IS(replay_numbers_from_0) ? number - 1 : number;
+}
+
+/* A replay that is not refused. */
+static uint64_t look(struct replay r)
+{
+    size_t one = record_len(r.width), count = r.records_len / one;
+    struct edonr_finding before = *r.finding;
+    if (IS(replay_answers_0))
+        return 0;
+    if (IS(replay_of_1024) && count > 1024)
+        r.records_len = 1024 * one;
+    if (IS(replay_loses_last) && count > 0)
+        r.records_len -= one;
+    uint64_t answer = has_other_replay() ? replay_otherwise(&r) : do_replay(r);
+    if (answer == 0) {
+        if (IS(replay_true_writes))
+            *r.finding = (struct edonr_finding){0};
+        return answer;
+    }
+    *r.finding = other_finding(&r, *r.finding, before);
+    return other_number(&r, answer);
+}
+
+/* For records of a sheet that is sound up to a fault. */
+static uint64_t other_replay_of_faulty(struct replay r, uint64_t answer)
+{
+    size_t fault = edonr_offset(answer), one = record_len(r.width);
+    size_t commands = (size_t)count_commands(r.width, r.sheet, fault, 0);
+    bool whole = r.records_len % one == 0, more = r.records_len / one > commands;
+    struct replay front = r;
+    front.sheet_len = fault;
+    if (IS(replay_records_before_faults) && !whole)
+        return edonr_refused(EDONR_REFUSED_RECORDS, 0);
+    if (IS(replay_count_before_faults) && whole && more)
+        return edonr_refused(EDONR_REFUSED_RECORD_COUNT, 0);
+    if (IS(replay_checks_as_it_runs) && whole && !more)
+        return do_replay(front);
+    if (IS(replay_false_before_faults) && whole) {
+        front.records_len = more ? commands * one : r.records_len;
+        return answer_of_replay(front) > 0 ? do_replay(front) : answer;
+    }
+    return answer;
+}
+
+/* For records that are refused with 16 or with 17. */
+static uint64_t other_records_refusal(struct replay r, uint64_t answer)
+{
+    size_t one = record_len(r.width), count = r.records_len / one;
+    size_t commands = (size_t)count_commands(r.width, r.sheet, r.sheet_len, 0);
+    bool by_count = edonr_refusal(answer) == EDONR_REFUSED_RECORD_COUNT;
+    if (IS(replay_count_before_records) && count > commands)
+        return edonr_refused(EDONR_REFUSED_RECORD_COUNT, 0);
+    if (IS(replay_count_told) && by_count)
+        return answer + r.sheet_len;
+    if (by_count ? IS(replay_takes_more) : IS(replay_takes_any_length)) {
+        r.records_len = (by_count ? commands : count) * one;
+        return do_replay(r);
+    }
+    return answer;
+}
+
+static uint64_t other_replay_refusal(struct replay r, uint64_t answer)
+{
+    uint32_t refusal = edonr_refusal(answer);
+    if (IS(replay_refused_writes))
+        r.finding->offset = edonr_offset(answer);
+    if (refusal >= EDONR_REFUSED_RECORDS)
+        return other_records_refusal(r, answer);
+    if (refusal >= EDONR_REFUSED_COMMAND)
+        return other_replay_of_faulty(r, answer);
+    if (IS(replay_records_before_lengths) && r.width > 0 &&
+        r.records_len % record_len(r.width) != 0)
+        return edonr_refused(EDONR_REFUSED_RECORDS, 0);
+    return answer;
+}
+
+/* Whether records are refused that are as many as the commands or fewer. */
+static bool is_refused_otherwise(const struct replay *r)
+{
+    uint64_t count = r->records_len / record_len(r->width);
+    uint64_t commands = count_commands(r->width, r->sheet, r->sheet_len, 0);
+    uint64_t units =
+        answer_of(REAL(run_forward), r->width, r->vectors_len, r->sheet, r->sheet_len);
+    return IS(replay_always_refused) ||
+           (IS(replay_full_refused) && count == commands && count > 0) ||
+           (IS(replay_fewer_refused) && count < commands) ||
+           (IS(replay_over_units_refused) && count > units) ||
+           (IS(replay_none_refused) && count == 0) ||
+           (IS(replay_without_sheet) && r->sheet == NULL) ||
+           (IS(replay_without_records) && r->records == NULL);
+}
+
+REPLAY(WRAP(first_false_record))
+{
+    struct replay r = {width,     vectors, vectors_len, sheet,
+                       sheet_len, records, records_len, finding};
+    if (IS(replay_width_by_16_bits))
+        r.width = (uint16_t)width;
+    if (IS(replay_vectors_by_32_bits))
+        r.vectors_len = (uint32_t)vectors_len;
+    if (IS(replay_sheet_by_32_bits))
+        r.sheet_len = (uint32_t)sheet_len;
+    if (IS(replay_records_by_32_bits))
+        r.records_len = (uint32_t)records_len;
+    uint64_t answer = answer_of_replay(r);
+    if (!succeeds(answer))
+        return other_replay_refusal(r, answer);
+    if (is_refused_otherwise(&r))
+        return edonr_refused(EDONR_REFUSED_RECORD_COUNT, 0);
+    answer = look(r);
+    if (IS(replay_moves_vectors))
+        REAL(run_forward)(width, (uint8_t *)vectors, vectors_len, sheet, sheet_len);
+    if (IS(replay_changes_sheet) && sheet_len > 0)
+        ((uint8_t *)sheet)[sheet_len - 1] ^= 1;
+    if (IS(replay_changes_records) && records_len > 0)
+        ((uint8_t *)records)[records_len - 1] ^= 1;
+    return answer;
 }

@@ -9,6 +9,7 @@
 #include "../reference/digest.h"
 #include "../reference/division.h"
 #include "../reference/product.h"
+#include "../reference/replay.h"
 #include "../reference/sheet.h"
 #include "../reference/shuffle.h"
 #include "../reference/step.h"
@@ -91,6 +92,15 @@ uint64_t edonr_unshuffle(uint32_t width, const uint8_t *records, size_t records_
                          uint8_t *out, size_t out_len)
 {
     return reference_unshuffle(width, records, records_len, out, out_len);
+}
+
+uint64_t edonr_first_false_record(uint32_t width, const uint8_t *vectors,
+                                  size_t vectors_len, const uint8_t *sheet,
+                                  size_t sheet_len, const uint8_t *records,
+                                  size_t records_len, struct edonr_finding *finding)
+{
+    return reference_first_false_record(width, vectors, vectors_len, sheet, sheet_len,
+                                        records, records_len, (uint64_t *)finding);
 }
 
 /*

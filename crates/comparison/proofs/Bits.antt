@@ -12,14 +12,17 @@ use lib.Seq.{ext-getD}
 use Rattle.replay.specs.Replay.{agreeing}
 use Rattle.replay.proofs.Agreeing.{tells}
 
-none-left : (a b : ℕ) → bitOr a b ≡ 0 → a ≡ 0
+pub none-left : (a b : ℕ) → bitOr a b ≡ 0 → a ≡ 0
 none-left a b e = omega (arith, or-add-and a b, and-le-r a b)
 
-none-right : (a b : ℕ) → bitOr a b ≡ 0 → b ≡ 0
+pub none-right : (a b : ℕ) → bitOr a b ≡ 0 → b ≡ 0
 none-right a b e = omega (arith, or-add-and a b, and-le-l a b)
 
 no-difference : (a b : ℕ) → bitXor a b ≡ 0 → a ≡ b
 no-difference a b e = omega (arith, xor-add-and a b, and-le-l a b, and-le-r a b)
+
+pub none-both : (a b : ℕ) → a ≡ 0 → b ≡ 0 → bitOr a b ≡ 0
+none-both a b e f = ap₂ {C = ℕ} bitOr e f ∙ or-zero-l 0
 
 -- of the pairs from number i on, n after the first
 abbrev bitsFrom : ℕ → ℕ → List ℕ → List ℕ → ℕ
@@ -41,7 +44,7 @@ none-set (suc n) i x y e (suc j) h =
 
 none-of-same : (n i : ℕ) (x : List ℕ) → bitsFrom n i x x ≡ 0
 none-of-same zero i x = xor-self (getD x i 0)
-none-of-same (suc n) i x = ap₂ {C = ℕ} bitOr (xor-self (getD x i 0)) (none-of-same n (suc i) x) ∙ or-zero-l 0
+none-of-same (suc n) i x = none-both (bitXor (getD x i 0) (getD x i 0)) (bitsFrom n (suc i) x x) (xor-self (getD x i 0)) (none-of-same n (suc i) x)
 
 pub no-bits : (x y : List ℕ) → length x ≡ 8 → length y ≡ 8 → eqb (bitsFrom 7 0 x y) 0 ≡ eqb (agreeing x y) 8
 no-bits x y lx ly =

@@ -10,35 +10,34 @@ ghost use Rattle.shuffle.specs.Shuffle.{recordLength};
 ghost use Rattle.replay.specs.Replay.{rowAt, agreeing, holds, findingAt};
 use replay::Finding;
 
-// Whether the words are the same, pair by pair. All differing bits are put together and tested once, so that the compiler compares several pairs at a time.
-fn same_words(x: [u64; 8], y: [u64; 8]) -> bool
-    ensures { λ r. ⌜ r ≡ eqb (agreeing x y) 8 ⌝ }
+// The bits in which words differ, those of all pairs together: none where each pair is the same.
+fn differing_bits(x: [u64; 8], y: [u64; 8]) -> u64
+    ensures { λ r. ⌜ eqb r 0 ≡ eqb (agreeing x y) 8 ⌝ }
 {
-    let bits = (x[0] ^ y[0])
+    (x[0] ^ y[0])
         | ((x[1] ^ y[1])
             | ((x[2] ^ y[2])
                 | ((x[3] ^ y[3])
-                    | ((x[4] ^ y[4]) | ((x[5] ^ y[5]) | ((x[6] ^ y[6]) | (x[7] ^ y[7])))))));
-    bits == 0
+                    | ((x[4] ^ y[4]) | ((x[5] ^ y[5]) | ((x[6] ^ y[6]) | (x[7] ^ y[7])))))))
 }
 
-// Whether the record at `from` holds: its bytes are those of the state. They are compared 64 at a time, at either width.
+// Whether the record at `from` holds: its bytes are those of the state. They are compared 64 at a time, at either width, and tested once, so that the
+// compiler takes several words together.
 pub fn record_holds(width: u32, state: &[u8], records: &[u8], from: usize) -> bool
     requires { ⌜ (knownWidth width ≡ true) × (length (now state) ≡ recordLength width) × (from + recordLength width ≤ length (now records)) ⌝ }
     ensures { λ r. ⌜ r ≡ holds (rowAt width (now (records .entry)) from) (rowAt width (now (state .entry)) 0) ⌝ }
 {
     let size = 8 * (width as usize);
+    let mut bits: u64 = 0;
     let mut at: usize = 0;
     while at < size {
         let there = from + at;
         let found = memory64::load_vector(&records[there..]);
         let expected = memory64::load_vector(&state[at..]);
-        if !same_words(found, expected) {
-            return false;
-        }
+        bits = bits | differing_bits(found, expected);
         at += 64;
     }
-    true
+    bits == 0
 }
 
 // The word whose bytes stand at `at`.

@@ -3,7 +3,7 @@ use mathlib.Core.Path.{_≡_, ap, ap₂, sym, _∙_}
 use mathlib.Core.List.{List, _++_}
 use Prim.Native.Nat.{ℕ, _+_, _*_, _≤_}
 use lib.ListN.{length, take, drop}
-use lib.Seq.{take-add, drop-drop}
+use lib.Seq.{take-take, take-add, drop-drop}
 use Rattle.memory.specs.Bytes.{wordsAt, bytesOf, Bytes}
 use Rattle.memory.proofs.Bytes.{words-take, words-drop, bytes-words}
 
@@ -17,6 +17,9 @@ module _ (a : List ℕ) (i : ℕ) (b : List ℕ) (j : ℕ) where
       take-add m n (drop i a)
       ∙ ap₂ {C = List ℕ} (λ x y. x ++ y) e (ap (take n) (drop-drop m i a) ∙ f ∙ sym (ap (take n) (drop-drop m j b)))
       ∙ sym (take-add m n (drop j b))
+
+  pub same-first : (m n : ℕ) → m ≤ n → SameBytes n a i b j → SameBytes m a i b j
+  same-first m n h e = sym (take-take m n (drop i a) h) ∙ ap (take m) e ∙ take-take m n (drop j b) h
 
   -- n words that lie m bytes behind the start
   pub words-same : (l m k n : ℕ) → m + n * k ≤ l → SameBytes l a i b j → wordsAt k n a (i + m) ≡ wordsAt k n b (j + m)

@@ -1,38 +1,14 @@
-// Replays: the commands of a recorded run are done again, and each record is held against the state that they lead to.
+// Replays: the records of a run are held against the run itself.
 ghost use mathlib.Core.Path.{_≡_};
 ghost use mathlib.Core.Bool.{true};
-ghost use Prim.Native.Nat.{_%_};
 ghost use lib.ListN.{length};
 ghost use Rattle.quasigroup.specs.Tables.{knownWidth};
 ghost use Rattle.shuffle.specs.Shuffle.{recordLength};
-ghost use Rattle.replay.specs.Replay.{recordCount, firstFalse, recordTests, replayAnswer};
+ghost use Rattle.replay.specs.Replay.{recordTests, replayAnswer};
 use answer::Answer;
 use answer::Refusal;
 use replay::ReplayAnswer;
 use sheet::Summary;
-
-// The first false record. `state` is lent with the starting vectors, and goes from one command to the next.
-fn replay(width: u32, sheet: &[u8], records: &[u8], state: &mut [u8]) -> ReplayAnswer
-    requires { ⌜ (knownWidth width ≡ true) × (length (now state) ≡ recordLength width) × (length (now records) % recordLength width ≡ 0) ⌝ }
-    ensures { λ r. let l = now (records .entry) in ⌜ r ≡ firstFalse (recordCount width l) width (now (sheet .entry)) (now (state .entry)) l 0 ⌝ }
-{
-    let size = state.len();
-    let mut number: u64 = 1;
-    let mut offset: usize = 0;
-    let mut from: usize = 0;
-    while from < records.len() {
-        let p = stepper::advance(width, sheet, offset, 1, state);
-        let next = p.offset;
-        if !comparison::record_holds(width, state, records, from) {
-            let finding = comparison::finding(width, offset, state, records, from);
-            return ReplayAnswer::FirstFalse(number, finding);
-        }
-        number += 1;
-        offset = next;
-        from += size;
-    }
-    ReplayAnswer::Holds
-}
 
 // What the tests of `n` bytes of records answer, of a sheet with `commands` commands.
 fn records_answer(width: u32, n: usize, commands: usize) -> Answer
@@ -40,10 +16,12 @@ fn records_answer(width: u32, n: usize, commands: usize) -> Answer
     ensures { λ r. ⌜ r ≡ recordTests width n commands ⌝ }
 {
     let size = 8 * (width as usize);
-    if n % size != 0 {
+    let rest = n % size;
+    let count = n / size;
+    if rest != 0 {
         return Answer::Refused(Refusal::Records, 0);
     }
-    if commands < n / size {
+    if commands < count {
         return Answer::Refused(Refusal::RecordCount, 0);
     }
     Answer::Done(0)
@@ -68,7 +46,7 @@ fn replay_at(
         Summary::Whole(commands, _) => match records_answer(width, records.len(), commands) {
             Answer::Done(_) => {
                 memory::copy_at(state, 0, vectors);
-                replay(width, sheet, records, state)
+                verifier::first_false(width, sheet, records, state)
             }
             Answer::Refused(r, at) => ReplayAnswer::Refused(r, at),
         },

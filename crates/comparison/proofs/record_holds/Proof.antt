@@ -2,18 +2,17 @@ use Prim.Native.Nat.{_-_}
 use native.Mathlib.Omega.{arith}
 use borrow.Author.Needs.{needs}
 use denote.Ref.{now}
-use Rattle.answer.proofs.Tests as Tests
 use Rattle.quasigroup.proofs.Widths.{bytewise}
-use Rattle.comparison.proofs.Chunks.{Compared, begin, room, next, differs, holds-all}
+use Rattle.comparison.proofs.Chunks.{Compared, begin, room, next, holds-all}
 use Rattle.comparison.proofs.Search.{width-most}
 use Rattle.comparison.proofs.record_holds.Statement.{statement}
 use Rattle.comparison.proofs.record_holds.Tie as tie
 
 abbrev Inv-loop : tie.InvT-loop
-Inv-loop width state records from size at₀ at = Compared width records from state at
+Inv-loop width state records from size bits₀ at₀ bits at = Compared width records from state bits at
 
 abbrev μ-loop : tie.MeasureT-loop
-μ-loop width state records from size at₀ at = size - at
+μ-loop width state records from size bits₀ at₀ bits at = size - at
 
 mul-size : tie.Need-mul-size Inv-loop μ-loop
 mul-size c = let p = c .before .before in omega (arith, width-most (p .args .width) (p .pre .0))
@@ -74,50 +73,38 @@ load-vector-requires-2 c κs =
     let h = room (p .args .width) (bytewise (p .args .width) (p .pre .0)) (t .before .loop .inv) (omega (arith, t .loop-test .taken)) in
     search (needs, h, p .pre .1)
 
-same-words-requires : tie.Need-same-words-requires Inv-loop μ-loop
-same-words-requires c κs = search needs
-
-returns : tie.Need-returns Inv-loop μ-loop
-returns c =
-    let y = c .before .before in
-    let x = y .before .before in
-    let t = x .before .before in
-    let k = t .before .before in
-    let p = k .before .before in
-    let a = p .args in
-    differs (a .width) (bytewise (a .width) (p .pre .0)) (now (a .records)) (λ i. omega (arith, k .shared-slice-known2 .given i)) (a .from) (now (a .state))
-    (λ i. omega (arith, k .before .shared-slice-known .given i)) (p .pre .2) (p .pre .1) (t .before .loop .at) (t .before .loop .inv)
-    (omega (arith, t .loop-test .taken)) (x .load-vector .ensures) (y .load-vector2 .ensures) (Tests.stops (c .before .same-words .ensures) (c .if1 .taken))
+differing-bits-requires : tie.Need-differing-bits-requires Inv-loop μ-loop
+differing-bits-requires c κs = search needs
 
 add-at : tie.Need-add-at Inv-loop μ-loop
 add-at c =
-    let t = c .before .before .before .before .before .before in
+    let t = c .before .before .before .before .before in
     let p = t .before .before .before .before in
     let h = room (p .args .width) (bytewise (p .args .width) (p .pre .0)) (t .before .loop .inv) (omega (arith, t .loop-test .taken)) in
     omega (arith, h, width-most (p .args .width) (p .pre .0))
 
 loop-less : tie.Need-loop-less Inv-loop μ-loop
-loop-less c = let t = c .before .before .before .before .before .before in omega (arith, t .loop-test .taken)
+loop-less c = let t = c .before .before .before .before .before in omega (arith, t .loop-test .taken)
 
 loop-again : tie.Need-loop-again Inv-loop μ-loop
 loop-again c =
-    let y = c .before .before in
+    let y = c .before in
     let x = y .before .before in
     let t = x .before .before in
     let k = t .before .before in
     let p = k .before .before in
     let a = p .args in
     next (a .width) (bytewise (a .width) (p .pre .0)) (now (a .records)) (λ i. omega (arith, k .shared-slice-known2 .given i)) (a .from) (now (a .state))
-    (λ i. omega (arith, k .before .shared-slice-known .given i)) (p .pre .2) (p .pre .1) (t .before .loop .at) (t .before .loop .inv)
-    (omega (arith, t .loop-test .taken)) (x .load-vector .ensures) (y .load-vector2 .ensures) (Tests.goes-on (c .before .same-words .ensures) (c .if1 .left))
+    (λ i. omega (arith, k .before .shared-slice-known .given i)) (p .pre .2) (p .pre .1) (t .before .loop .bits) (t .before .loop .at) (t .before .loop .inv)
+    (omega (arith, t .loop-test .taken)) (x .load-vector .ensures) (y .load-vector2 .ensures) (c .differing-bits .result) (c .differing-bits .ensures)
 
-returns-2 : tie.Need-returns-2 Inv-loop μ-loop
-returns-2 c =
+returns : tie.Need-returns Inv-loop μ-loop
+returns c =
     let k = c .before .before in
     let p = k .before .before in
     let a = p .args in
     holds-all (a .width) (bytewise (a .width) (p .pre .0)) (now (a .records)) (λ i. omega (arith, k .shared-slice-known2 .given i)) (a .from) (now (a .state))
-    (λ i. omega (arith, k .before .shared-slice-known .given i)) (p .pre .2) (p .pre .1) (c .before .loop .at) (c .before .loop .inv)
+    (λ i. omega (arith, k .before .shared-slice-known .given i)) (p .pre .2) (p .pre .1) (c .before .loop .bits) (c .before .loop .at) (c .before .loop .inv)
     (omega (arith, c .loop-test .left))
 
 pub record-holds-spec : {M : Type 1} → statement M
@@ -126,4 +113,4 @@ record-holds-spec =
     (tie.spec
     Inv-loop μ-loop mul-size loop-holds add-there sub-load-vector part-load-vector-start part-load-vector-end
     load-vector-requires sub-load-vector-2 part-load-vector-start-2 part-load-vector-end-2 load-vector-requires-2
-    same-words-requires returns add-at loop-less loop-again returns-2)
+    differing-bits-requires add-at loop-less loop-again returns)

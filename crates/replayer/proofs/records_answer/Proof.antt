@@ -5,14 +5,14 @@ use Rattle.shuffle.proofs.Widths.{sized}
 use Rattle.replayer.proofs.records_answer.Statement.{statement}
 use Rattle.replayer.proofs.records_answer.Tie as tie
 
-rem-if1 : tie.Need-rem-if1
-rem-if1 c = sized (c .args .width) (c .pre) .some
+rem-rest : tie.Need-rem-rest
+rem-rest c = sized (c .args .width) (c .pre) .some
+
+div-count : tie.Need-div-count
+div-count c = sized (c .args .width) (c .pre) .some
 
 returns : tie.Need-returns
 returns c = let a = c .before .args in rw (ne-eqb (a .n % (8 * a .width)) 0 (c .if1 .taken))
-
-div-if2 : tie.Need-div-if2
-div-if2 c = sized (c .before .args .width) (c .before .pre) .some
 
 returns-2 : tie.Need-returns-2
 returns-2 c =
@@ -25,4 +25,4 @@ returns-3 c =
     rw (eq-eqb (a .n % (8 * a .width)) 0 (c .before .if1 .left), le-leb (a .n / (8 * a .width)) (a .commands) (c .if2 .left))
 
 pub records-answer-spec : {M : Type 1} → statement M
-records-answer-spec = tie.close (tie.spec (λ c. search needs) rem-if1 returns div-if2 returns-2 returns-3)
+records-answer-spec = tie.close (tie.spec (λ c. search needs) rem-rest div-count returns returns-2 returns-3)

@@ -24,8 +24,8 @@ copy-at-requires c κs =
     let a = p .args in
     omega (arith, p .pre .1, eqb-true (length (now (a .vectors))) (placeCount * (a .width)) (goes-on (i .before .vectors-fit .ensures) (i .if1 .left)))
 
-replay-requires : tie.Need-replay-requires
-replay-requires c κs =
+first-false-requires : tie.Need-first-false-requires
+first-false-requires c κs =
     let m = c .before .before .before .before .before in
     let q = m .before .before in
     let i = q .before .before .before .before .before .before .before in
@@ -48,7 +48,7 @@ returns-2 c =
     let e : length (now (a .vectors)) ≡ placeCount * (a .width) = eqb-true (length (now (a .vectors))) (placeCount * (a .width)) h in
     replayed (a .width) (now (a .sheet)) (now (a .vectors)) (now (a .records)) (p .pre .0) h (sym (d .commands .given .1) ∙ k .check .ensures .0)
     (q .records-answer .ensures) (m .enum-told .given .0 .0) (m .enum-told .given .1) (o .copy-at .last .0)
-    (copied (now (a .vectors)) (now (a .state)) (e ∙ sym (p .pre .1)) (o .copy-at .ensures)) (y .replay .ensures)
+    (copied (now (a .vectors)) (now (a .state)) (e ∙ sym (p .pre .1)) (o .copy-at .ensures)) (y .first-false .ensures)
 
 returns-3 : tie.Need-returns-3
 returns-3 c =
@@ -75,5 +75,5 @@ replay-at-spec =
     tie.close
     (tie.spec
     (λ c κs. search needs) returns (λ c. search needs) (λ c κs. search needs) (λ c. search needs) (λ c κs. search needs)
-    (λ c. search needs) copy-at-requires replay-requires (λ c. search needs) (λ c. search needs) (λ c. search needs)
+    (λ c. search needs) copy-at-requires first-false-requires (λ c. search needs) (λ c. search needs) (λ c. search needs)
     returns-2 returns-3 returns-4)

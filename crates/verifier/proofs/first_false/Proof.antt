@@ -6,9 +6,9 @@ use borrow.Author.Tests.{not-true, not-false}
 use denote.Ref.{now}
 use lib.ListN.{length}
 use Rattle.answer.proofs.Tests as Tests
-use Rattle.replayer.proofs.Loop.{Replayed, begin, some-bytes, room, few, holds-all, found-false, goes-on}
-use Rattle.replayer.proofs.replay.Statement.{statement}
-use Rattle.replayer.proofs.replay.Tie as tie
+use Rattle.verifier.proofs.Loop.{Replayed, begin, some-bytes, room, few, holds-all, found-false, goes-on}
+use Rattle.verifier.proofs.first_false.Statement.{statement}
+use Rattle.verifier.proofs.first_false.Tie as tie
 
 abbrev Inv-loop : tie.InvT-loop
 Inv-loop width sheet records state₀ size number₀ offset₀ from₀ state number offset from =
@@ -23,8 +23,8 @@ loop-holds c =
     let a = p .args in
     (search needs, begin (a .width) (now (a .sheet)) (now (a .state)) (now (a .records)) (p .pre .0) (p .pre .1) (p .pre .2))
 
-advance-requires : tie.Need-advance-requires Inv-loop μ-loop
-advance-requires c κs =
+step-requires : tie.Need-step-requires Inv-loop μ-loop
+step-requires c κs =
     let l = c .before .before .loop .inv .1 in
     (l .known, l .bytes)
 
@@ -51,7 +51,7 @@ returns c =
     let h = c .before .before .before in
     let v = h .before .before .before .before in
     let t = v .before .before in
-    found-false (t .before .loop .inv .1) (t .loop-test .taken) (v .advance .last .1 .1 .1 .1 .0) (v .advance .ensures) (h .record-holds .ensures)
+    found-false (t .before .loop .inv .1) (t .loop-test .taken) (v .step .last .1 .1 .1 .0) (v .step .ensures .0) (v .step .ensures .1) (h .record-holds .ensures)
     (not-true (h .record-holds .result) (c .before .before .if1 .taken)) (c .finding .ensures)
 
 add-number : tie.Need-add-number Inv-loop μ-loop
@@ -78,7 +78,7 @@ loop-again c =
     let t = v .before .before in
     let l = t .before .loop .inv .1 in (
       search (needs, t .before .loop .inv .0),
-      goes-on l (t .loop-test .taken) (v .advance .last .1 .1 .1 .1 .0) (v .advance .ensures) (c .before .record-holds .ensures)
+      goes-on l (t .loop-test .taken) (v .step .last .1 .1 .1 .0) (v .step .ensures .0) (v .step .ensures .1) (c .before .record-holds .ensures)
           (not-false (c .before .record-holds .result) (c .if1 .left)) (search needs),
     )
 
@@ -88,9 +88,9 @@ same-length-2 c = c .before .loop .inv .0
 returns-2 : tie.Need-returns-2 Inv-loop μ-loop
 returns-2 c = holds-all (c .before .loop .inv .1) (c .loop-test .left)
 
-pub replay-spec : {M : Type 1} → statement M
-replay-spec =
+pub first-false-spec : {M : Type 1} → statement M
+first-false-spec =
     tie.close
     (tie.spec
-    Inv-loop μ-loop loop-holds advance-requires record-holds-requires finding-requires same-length returns add-number
+    Inv-loop μ-loop loop-holds step-requires record-holds-requires finding-requires same-length returns add-number
     add-from loop-less loop-again same-length-2 returns-2)

@@ -10,7 +10,7 @@ use lib.ListN.{length}
 use Rattle.quasigroup.specs.Tables.{knownWidth}
 use Rattle.quasigroup.proofs.Widths.{bytewise}
 use Rattle.sheet.specs.Run.{vectorsIn}
-use Rattle.sheet.specs.Progress.{RunState, runState, startingAt, stateAfter}
+use Rattle.sheet.specs.Progress.{RunState, startingAt, stateAfter}
 use Rattle.sheet.proofs.Progress.{after-after, after-from}
 use Rattle.shuffle.specs.Shuffle.{recordLength}
 use Rattle.shuffle.proofs.Widths.{sized, records-whole}
@@ -32,7 +32,7 @@ no-fewer a b n z h (no q) = absurd (omega (arith, suc-mul a n, mul-le-mul-right 
 -- ---- one command more
 
 module _ (w : ℕ) (s b : List ℕ) (k : ℕ) where
-  pub one-more : stateBy w s b (suc k) ≡ stateAfter 1 w s (stateBy w s b k)
+  one-more : stateBy w s b (suc k) ≡ stateAfter 1 w s (stateBy w s b k)
   one-more =
       let e : suc k ≡ k + 1 = omega arith in
       ap (stateBy w s b) e ∙ sym (after-after w s k 1 (startingAt 0 (vectorsIn w b)))
@@ -46,12 +46,11 @@ module _ (w : ℕ) (s b : List ℕ) (k : ℕ) where
         ap (λ (p : RunState). f (p .offset) (p .vectors)) (one-more ∙ after-from w s 1 (stateBy w s b k))
         ∙ ap₂ {C = A} (λ o v. f (stateAfter 1 w s (startingAt o v) .offset) (stateAfter 1 w s (startingAt o v) .vectors)) (sym eo) (sym ev)
 
-    module _ {next units : ℕ} (last : List ℕ) (e : runState next units (vectorsIn w last) ≡ stateAfter 1 w s (startingAt offset (vectorsIn w state))) where
-      pub next-offset : next ≡ stateBy w s b (suc k) .offset
-      next-offset = ap (λ (p : RunState). p .offset) e ∙ sym (from-here ℕ (λ o v. o))
+    next-offset : {next : ℕ} → next ≡ stateAfter 1 w s (startingAt offset (vectorsIn w state)) .offset → next ≡ stateBy w s b (suc k) .offset
+    next-offset e = e ∙ sym (from-here ℕ (λ o v. o))
 
-      pub next-vectors : vectorsIn w last ≡ stateBy w s b (suc k) .vectors
-      next-vectors = ap (λ (p : RunState). p .vectors) e ∙ sym (from-here (List (List ℕ)) (λ o v. v))
+    next-vectors : {v : List (List ℕ)} → v ≡ stateAfter 1 w s (startingAt offset (vectorsIn w state)) .vectors → v ≡ stateBy w s b (suc k) .vectors
+    next-vectors e = e ∙ sym (from-here (List (List ℕ)) (λ o v. v))
 
 -- ---- the loop
 
@@ -114,10 +113,11 @@ module _ {w : ℕ} {s b r : List ℕ} {size number offset from : ℕ} {state : L
     few = omega (arith, c .numbered, one-left, div-le-self (length r) (recordLength w))
 
     -- code did one command more, which left the bytes `last`
-    module _ {next units : ℕ} (last : List ℕ) (e : runState next units (vectorsIn w last) ≡ stateAfter 1 w s (startingAt offset (vectorsIn w state))) where
+    module _ {next : ℕ} (last : List ℕ) (eo : next ≡ stateAfter 1 w s (startingAt offset (vectorsIn w state)) .offset)
+        (ev : vectorsIn w last ≡ stateAfter 1 w s (startingAt offset (vectorsIn w state)) .vectors) where
       expected : rowAt w last 0 ≡ replayed w s b k
       expected =
-          sym (row-vectors w (bytewise w (c .known)) last 0) ∙ ap inRow (next-vectors w s b k state (c .offset-is) (c .vectors-are) last e)
+          sym (row-vectors w (bytewise w (c .known)) last 0) ∙ ap inRow (next-vectors w s b k state (c .offset-is) (c .vectors-are) ev)
 
       found : rowAt w r from ≡ recorded w r k
       found = ap (rowAt w r) (c .at-record)
@@ -158,8 +158,8 @@ module _ {w : ℕ} {s b r : List ℕ} {size number offset from : ℕ} {state : L
               numbered = omega (arith, c .numbered);
               at-record = omega (arith, c .at-record, c .record-size, suc-mul k (recordLength w));
               bytes = l ∙ c .bytes;
-              offset-is = next-offset w s b k state (c .offset-is) (c .vectors-are) last e;
-              vectors-are = next-vectors w s b k state (c .offset-is) (c .vectors-are) last e;
+              offset-is = next-offset w s b k state (c .offset-is) (c .vectors-are) eo;
+              vectors-are = next-vectors w s b k state (c .offset-is) (c .vectors-are) ev;
               rest =
                   ap (λ (t : Bool). cond t (firstFalse (recordCount w r - suc k) w s b r (suc k)) (FirstFalse (suc k) now)) (sym u)
                   ∙ by-test;
