@@ -28,6 +28,8 @@ static const struct refusal refusals[] = {
     {EDONR_REFUSED_START, "EDONR_REFUSED_START",
      "a slice starts neither at a command nor at the end"},
     {EDONR_REFUSED_RECORDS, "EDONR_REFUSED_RECORDS", "the last record is not whole"},
+    {EDONR_REFUSED_RECORD_COUNT, "EDONR_REFUSED_RECORD_COUNT",
+     "there are more records than commands"},
 };
 
 /* A faulty machine may answer with a number that the header does not know. */

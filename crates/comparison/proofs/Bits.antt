@@ -9,7 +9,7 @@ use lib.Bits.{bitOr, bitXor, and-le-l, and-le-r, or-add-and, xor-add-and, xor-se
 use lib.Dec.{eqb}
 use lib.ListN.{length, getD}
 use lib.Seq.{ext-getD}
-use Rattle.replay.specs.Replay.{agreeing}
+use Rattle.replay.specs.Difference.{agreeing}
 use Rattle.replay.proofs.Agreeing.{tells}
 
 pub none-left : (a b : ℕ) → bitOr a b ≡ 0 → a ≡ 0

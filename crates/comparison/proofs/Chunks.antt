@@ -13,10 +13,10 @@ use Rattle.memory.proofs.Parts.{words-part}
 use Rattle.memory.proofs.Same.{SameBytes, same-more, same-first, words-same, bytes-same}
 use Rattle.quasigroup.proofs.Widths.{Bytewise}
 use Rattle.shuffle.specs.Shuffle.{recordLength, recordWords}
-use Rattle.replay.specs.Replay.{rowAt, agreeing, holds}
+use Rattle.replay.specs.Difference.{recordAt, agreeing, sameWords}
 use Rattle.replay.proofs.Agreeing.{agree-all, agree-self, tells}
 use Rattle.comparison.proofs.Bits.{none-left, none-right, none-both}
-use Rattle.replay.proofs.Rows.{row-length, same-rows, same-bytes}
+use Rattle.replay.proofs.Words.{record-length, same-records, same-bytes}
 
 -- `bits` has none set exactly if the first bytes of the record at `from` are those of the state v, as far as `at`
 pub record Compared (w : ℕ) (r : List ℕ) (from : ℕ) (v : List ℕ) (bits at : ℕ) : Type 0 where
@@ -74,11 +74,11 @@ module _ (w : ℕ) (hw : Bytewise w) (r : List ℕ) (hr : Bytes r) (from : ℕ) 
               (no-bits (found ∙ words-same r from v 0 (at + 64) at 8 8 (omega arith) e ∙ sym expected));
         }
 
-  pub holds-all : (bits at : ℕ) → Compared w r from v bits at → recordLength w ≤ at → eqb bits 0 ≡ holds (rowAt w r from) (rowAt w v 0)
+  pub holds-all : (bits at : ℕ) → Compared w r from v bits at → recordLength w ≤ at → eqb bits 0 ≡ sameWords (recordAt w r from) (recordAt w v 0)
   holds-all bits at c h =
       let e : at ≡ recordLength w = omega (arith, c .within) in
-      tells (eqb bits 0) (rowAt w r from) (rowAt w v 0) recordWords (row-length w r from) (row-length w v 0)
-      (λ t. same-rows w hw r from v 0 (rw e at (c .same (eqb-true bits 0 t))))
+      tells (eqb bits 0) (recordAt w r from) (recordAt w v 0) recordWords (record-length w r from) (record-length w v 0)
+      (λ t. same-records w hw r from v 0 (rw e at (c .same (eqb-true bits 0 t))))
       λ t x.
       eqb-false bits 0 t
       (c .none (subst (λ (n : ℕ). SameBytes n r from v 0) (sym e) (same-bytes w hw r from v 0 hr hv lr (omega (arith, lv)) x)))

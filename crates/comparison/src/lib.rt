@@ -7,7 +7,7 @@ ghost use lib.ListN.{length};
 ghost use Rattle.memory.specs.Bytes.{wordAt};
 ghost use Rattle.quasigroup.specs.Tables.{knownWidth};
 ghost use Rattle.shuffle.specs.Shuffle.{recordLength};
-ghost use Rattle.replay.specs.Replay.{rowAt, agreeing, holds, findingAt};
+ghost use Rattle.replay.specs.Difference.{recordAt, agreeing, sameWords, difference};
 use replay::Finding;
 
 // The bits in which words differ, those of all pairs together: none where each pair is the same.
@@ -25,7 +25,7 @@ fn differing_bits(x: [u64; 8], y: [u64; 8]) -> u64
 // compiler takes several words together.
 pub fn record_holds(width: u32, state: &[u8], records: &[u8], from: usize) -> bool
     requires { ⌜ (knownWidth width ≡ true) × (length (now state) ≡ recordLength width) × (from + recordLength width ≤ length (now records)) ⌝ }
-    ensures { λ r. ⌜ r ≡ holds (rowAt width (now (records .entry)) from) (rowAt width (now (state .entry)) 0) ⌝ }
+    ensures { λ r. ⌜ r ≡ sameWords (recordAt width (now (records .entry)) from) (recordAt width (now (state .entry)) 0) ⌝ }
 {
     let size = 8 * (width as usize);
     let mut bits: u64 = 0;
@@ -55,7 +55,7 @@ fn word_at(width: u32, s: &[u8], at: usize) -> u64
 // The number of the first word that differs, of all 64; or 64.
 fn first_difference(width: u32, state: &[u8], records: &[u8], from: usize) -> usize
     requires { ⌜ (knownWidth width ≡ true) × (length (now state) ≡ recordLength width) × (from + recordLength width ≤ length (now records)) ⌝ }
-    ensures { λ r. ⌜ r ≡ agreeing (rowAt width (now (records .entry)) from) (rowAt width (now (state .entry)) 0) ⌝ }
+    ensures { λ r. ⌜ r ≡ agreeing (recordAt width (now (records .entry)) from) (recordAt width (now (state .entry)) 0) ⌝ }
 {
     let bytes = width as usize / 8;
     let mut first: usize = 64;
@@ -75,9 +75,8 @@ fn first_difference(width: u32, state: &[u8], records: &[u8], from: usize) -> us
 // What is told of a record that does not hold, whose command stands at `offset` of its sheet.
 pub fn finding(width: u32, offset: usize, state: &[u8], records: &[u8], from: usize) -> Finding
     requires { ⌜ (knownWidth width ≡ true) × (length (now state) ≡ recordLength width) × (from + recordLength width ≤ length (now records)) ⌝ }
-    requires { ⌜ holds (rowAt width (now records) from) (rowAt width (now state) 0) ≡ false ⌝ }
-    ensures { λ r. let x = rowAt width (now (records .entry)) from in
-        let y = rowAt width (now (state .entry)) 0 in ⌜ r ≡ findingAt offset x y (agreeing x y) ⌝ }
+    requires { ⌜ sameWords (recordAt width (now records) from) (recordAt width (now state) 0) ≡ false ⌝ }
+    ensures { λ r. ⌜ r ≡ difference offset (recordAt width (now (records .entry)) from) (recordAt width (now (state .entry)) 0) ⌝ }
 {
     let i = first_difference(width, state, records, from);
     let at = i * (width as usize / 8);

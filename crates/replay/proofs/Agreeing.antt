@@ -8,7 +8,7 @@ use borrow.Author.Tests.{eq-eqb, ne-eqb, eqb-true, eqb-false}
 use lib.Dec.{eqb}
 use lib.ListN.{length, getD}
 use Rattle.answer.proofs.Tests.{split}
-use Rattle.replay.specs.Replay.{agreeing}
+use Rattle.replay.specs.Difference.{agreeing}
 
 -- what holds of both, where the first words agree and where they do not, holds of the number
 by-first : (P : ℕ → Type 0) (a b : ℕ) (x y : List ℕ) → (a ≡ b → P (suc (agreeing x y))) → ((a ≡ b → ⊥) → P 0) → P (agreeing (a ∷ x) (b ∷ y))

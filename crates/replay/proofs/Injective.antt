@@ -23,16 +23,17 @@ use Rattle.shuffle.specs.Shuffle.{recordLength}
 use Rattle.replay.specs.declared.Finding.{Finding}
 use Rattle.replay.specs.declared.ReplayAnswer.{ReplayAnswer}
 use Rattle.replay.specs.declared.ReplayAnswer.the-variants.{Holds, FirstFalse, Refused}
-use Rattle.replay.specs.Replay.{recorded, replayed, holds, firstFalse, recordCount, answered}
+use Rattle.replay.specs.Difference.{sameWords}
+use Rattle.replay.specs.Replay.{recorded, replayed, firstFalse, recordCount, answered, isRefused}
 use Rattle.replay.specs.Number.{replayNumber, findingAfter}
-use Rattle.replay.specs.Injective.{isHolds, isRefused, ReplayFits, EveryReplayFits, ReplayNumbersInjective}
+use Rattle.replay.specs.Injective.{isHolds, ReplayFits, EveryReplayFits, ReplayNumbersInjective}
 
 -- ---- every answer fits
 
 few : (w : ℕ) (s b r : List ℕ) (n k : ℕ) → k + n ≤ 2048 → ReplayFits (firstFalse n w s b r k)
 few w s b r zero k h = tt
 few w s b r (suc n) k h =
-    split ReplayFits (holds (recorded w r k) (replayed w s b k)) _ _ (λ _. few w s b r n (suc k) (omega arith)) (λ _. (omega arith, omega arith))
+    split ReplayFits (sameWords (recorded w r k) (replayed w s b k)) _ _ (λ _. few w s b r n (suc k) (omega arith)) (λ _. (omega arith, omega arith))
 
 pub every-replay-fits : EveryReplayFits
 every-replay-fits w s b r =

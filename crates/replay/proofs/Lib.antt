@@ -1,5 +1,5 @@
 pub mod Agreeing
-pub mod Rows
-pub mod Findings
+pub mod Words
 pub mod Refusals
+pub mod Findings
 pub mod Injective

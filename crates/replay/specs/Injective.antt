@@ -6,13 +6,8 @@ use Prim.Native.Nat.{ℕ, _^_, _≤_, _<_}
 use lib.Dec.{eqb, leb}
 use Rattle.replay.specs.declared.ReplayAnswer.{ReplayAnswer}
 use Rattle.replay.specs.declared.ReplayAnswer.the-variants.{Holds, FirstFalse, Refused}
-use Rattle.replay.specs.Replay.{replayAnswer}
+use Rattle.replay.specs.Replay.{replayAnswer, isRefused}
 use Rattle.replay.specs.Number.{replayNumber, findingAfter}
-
-abbrev pub isRefused : ReplayAnswer → Bool
-isRefused Holds = false
-isRefused (FirstFalse n f) = false
-isRefused (Refused r at) = true
 
 abbrev pub isHolds : ReplayAnswer → Bool
 isHolds Holds = true

@@ -1,4 +1,4 @@
-// Recorded runs held against the run itself, which is done again for it: a replay. Definitions in specs/, laws in proofs/, what a replay answers, and that for
+// Recorded runs, held against the run itself: a replay does the run again. Definitions in specs/, laws in proofs/, what a replay answers, and that answer for
 // C.
 ghost use mathlib.Core.Path.{_≡_};
 ghost use Rattle.replay.specs.Number.{replayNumber, findingAfter};
@@ -14,7 +14,7 @@ pub struct Finding {
     pub expected: u64,
 }
 
-// Every record holds; or there is a first false one, with its number from 1; or a refusal has its offset, as in `Answer`.
+// Every record holds; or the first false one is told, with its number from 1; or a refusal, with its offset as in `Answer`.
 pub enum ReplayAnswer {
     Holds,
     FirstFalse(u64, Finding),

@@ -54,17 +54,16 @@ fn replay_at(
     }
 }
 
-// The first false record of a run of the sheet over the vectors, all of which stay as they are.
+// The first false record of a run of the sheet over the vectors, all of which stay as they are. One state serves both widths.
 pub fn first_false_record(width: u32, vectors: &[u8], sheet: &[u8], records: &[u8]) -> ReplayAnswer
     ensures { λ r. ⌜ r ≡ replayAnswer width (now (sheet .entry)) (now (vectors .entry)) (now (records .entry)) ⌝ }
 {
+    let mut state = [0u8; 512];
     if width == 32 {
-        let mut state = [0u8; 256];
-        return replay_at(32, vectors, sheet, records, &mut state);
+        return replay_at(32, vectors, sheet, records, &mut state[..256]);
     }
     if width == 64 {
-        let mut state = [0u8; 512];
-        return replay_at(64, vectors, sheet, records, &mut state);
+        return replay_at(64, vectors, sheet, records, &mut state[..512]);
     }
     ReplayAnswer::Refused(Refusal::Width, 0)
 }

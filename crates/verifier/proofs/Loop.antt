@@ -17,8 +17,9 @@ use Rattle.shuffle.proofs.Widths.{sized, records-whole}
 use Rattle.replay.specs.declared.Finding.{Finding}
 use Rattle.replay.specs.declared.ReplayAnswer.{ReplayAnswer}
 use Rattle.replay.specs.declared.ReplayAnswer.the-variants.{Holds, FirstFalse}
-use Rattle.replay.specs.Replay.{stateBy, inRow, rowAt, recorded, replayed, agreeing, holds, findingAt, firstFalse, recordCount}
-use Rattle.replay.proofs.Rows.{row-vectors}
+use Rattle.replay.specs.Difference.{inOrder, recordAt, sameWords, difference}
+use Rattle.replay.specs.Replay.{stateBy, recorded, replayed, firstFalse, recordCount}
+use Rattle.replay.proofs.Words.{record-vectors}
 
 -- fewer whole records
 fewer : (a b n : ℕ) → a * n < b * n → Dec (b ≤ a) → a < b
@@ -115,20 +116,20 @@ module _ {w : ℕ} {s b r : List ℕ} {size number offset from : ℕ} {state : L
     -- code did one command more, which left the bytes `last`
     module _ {next : ℕ} (last : List ℕ) (eo : next ≡ stateAfter 1 w s (startingAt offset (vectorsIn w state)) .offset)
         (ev : vectorsIn w last ≡ stateAfter 1 w s (startingAt offset (vectorsIn w state)) .vectors) where
-      expected : rowAt w last 0 ≡ replayed w s b k
+      expected : recordAt w last 0 ≡ replayed w s b k
       expected =
-          sym (row-vectors w (bytewise w (c .known)) last 0) ∙ ap inRow (next-vectors w s b k state (c .offset-is) (c .vectors-are) ev)
+          sym (record-vectors w (bytewise w (c .known)) last 0) ∙ ap inOrder (next-vectors w s b k state (c .offset-is) (c .vectors-are) ev)
 
-      found : rowAt w r from ≡ recorded w r k
-      found = ap (rowAt w r) (c .at-record)
+      found : recordAt w r from ≡ recorded w r k
+      found = ap (recordAt w r) (c .at-record)
 
       -- .. and held the record against them
-      module _ {t : Bool} (et : t ≡ holds (rowAt w r from) (rowAt w last 0)) where
-        test : t ≡ holds (recorded w r k) (replayed w s b k)
-        test = et ∙ ap₂ {C = Bool} holds found expected
+      module _ {t : Bool} (et : t ≡ sameWords (recordAt w r from) (recordAt w last 0)) where
+        test : t ≡ sameWords (recorded w r k) (replayed w s b k)
+        test = et ∙ ap₂ {C = Bool} sameWords found expected
 
         abbrev now : Finding
-        now = findingAt (stateBy w s b k .offset) (recorded w r k) (replayed w s b k) (agreeing (recorded w r k) (replayed w s b k))
+        now = difference (stateBy w s b k .offset) (recorded w r k) (replayed w s b k)
 
         -- the answer by the test of this record
         by-test : cond t (firstFalse (recordCount w r - suc k) w s b r (suc k)) (FirstFalse (suc k) now) ≡ firstFalse (recordCount w r) w s b r 0
@@ -138,12 +139,12 @@ module _ {w : ℕ} {s b r : List ℕ} {size number offset from : ℕ} {state : L
             ∙ ap (λ (n : ℕ). firstFalse n w s b r k) (sym one) ∙ c .rest
 
         pub found-false : t ≡ false → {f : Finding}
-            → f ≡ findingAt offset (rowAt w r from) (rowAt w last 0) (agreeing (rowAt w r from) (rowAt w last 0))
+            → f ≡ difference offset (recordAt w r from) (recordAt w last 0)
             → FirstFalse number f ≡ firstFalse (recordCount w r) w s b r 0
         found-false u ef =
             ap₂ {C = ReplayAnswer} FirstFalse (c .numbered)
-            (ef ∙ ap (λ (o : ℕ). findingAt o (rowAt w r from) (rowAt w last 0) (agreeing (rowAt w r from) (rowAt w last 0))) (c .offset-is)
-            ∙ ap₂ {C = Finding} (λ x y. findingAt (stateBy w s b k .offset) x y (agreeing x y)) found expected)
+            (ef ∙ ap (λ (o : ℕ). difference o (recordAt w r from) (recordAt w last 0)) (c .offset-is)
+            ∙ ap₂ {C = Finding} (difference (stateBy w s b k .offset)) found expected)
             ∙ ap (λ (t : Bool). cond t (firstFalse (recordCount w r - suc k) w s b r (suc k)) (FirstFalse (suc k) now)) (sym u)
             ∙ by-test
 

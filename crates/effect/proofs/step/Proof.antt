@@ -6,8 +6,8 @@ use Rattle.sheet.specs.Run.{vectorsIn}
 use Rattle.sheet.specs.Progress.{RunState, startingAt}
 use Rattle.sheet.proofs.Sound.{got-sound}
 use Rattle.sheet.proofs.Progress.{after-read}
-use Rattle.verifier.proofs.step.Statement.{statement}
-use Rattle.verifier.proofs.step.Tie as tie
+use Rattle.effect.proofs.step.Statement.{statement}
+use Rattle.effect.proofs.step.Tie as tie
 
 apply-requires : tie.Need-apply-requires
 apply-requires c κs =
@@ -24,7 +24,7 @@ returns c =
     let v = c .before .before in
     let d = v .before .before .before in
     let a = d .before .before .before .before .before .args in
-    let e = sym (after-read (a .width) (now (a .sheet)) 0 (startingAt (a .offset) (vectorsIn (a .width) (now (a .state)))) (Got (d .d .given .0 .0))
+    let e = sym (after-read (a .width) (now (a .sheet)) 0 (startingAt (a .offset) (vectorsIn (a .width) (now (a .vectors)))) (Got (d .d .given .0 .0))
     (sym (d .before .before .read-command .ensures) ∙ d .d .given .1)) in
     (ap (λ (p : RunState). p .offset) e, v .apply .ensures ∙ ap (λ (p : RunState). p .vectors) e)
 
@@ -32,7 +32,7 @@ returns-2 : tie.Need-returns-2
 returns-2 c =
     let r = c .before .before in
     let a = r .before .before .before .args in
-    let e = sym (after-read (a .width) (now (a .sheet)) 0 (startingAt (a .offset) (vectorsIn (a .width) (now (a .state)))) (Fault (c .enum-told .given .0 .0))
+    let e = sym (after-read (a .width) (now (a .sheet)) 0 (startingAt (a .offset) (vectorsIn (a .width) (now (a .vectors)))) (Fault (c .enum-told .given .0 .0))
     (sym (r .read-command .ensures) ∙ c .enum-told .given .1)) in
     (ap (λ (p : RunState). p .offset) e, ap (λ (p : RunState). p .vectors) e)
 
@@ -40,7 +40,7 @@ returns-3 : tie.Need-returns-3
 returns-3 c =
     let r = c .before .before in
     let a = r .before .before .before .args in
-    let e = sym (after-read (a .width) (now (a .sheet)) 0 (startingAt (a .offset) (vectorsIn (a .width) (now (a .state)))) End
+    let e = sym (after-read (a .width) (now (a .sheet)) 0 (startingAt (a .offset) (vectorsIn (a .width) (now (a .vectors)))) End
     (sym (r .read-command .ensures) ∙ c .enum-told2 .given .1)) in
     (ap (λ (p : RunState). p .offset) e, ap (λ (p : RunState). p .vectors) e)
 
