@@ -506,15 +506,15 @@ typedef char edonr_finding_has_no_padding[sizeof(struct edonr_finding) == 40 ? 1
  * edonr_run_forward does, and holds record k, k from 1, against V0 to V7 after k commands.
  *
  * Each record is held against the run from its start, and never against the record before
- * it: a false record neither excuses the ones behind it nor accuses them. There may be
- * fewer records than commands, or none; the first ones are then held against the first
- * commands. Records are plain ones; edonr_unshuffle makes them from shuffled ones.
+ * it, so whether one is false depends on no other. There may be fewer records than
+ * commands, or none: record k belongs to command k all the same. Records are plain ones;
+ * edonr_unshuffle makes them from shuffled ones.
  *
  * Reads    vectors, EDONR_PLACES * w bytes: those that the run started from; sheet,
  *          sheet_len bytes; and records, records_len bytes. None of them changes.
  * Writes   beside a false record, and only there, *finding: of all its words that differ
  *          the first, by place and then by number. At width 32 the upper halves of found
- *          and expected are 0.
+ *          and expected are 0. finding points to a struct in every case.
  * Returns  0 if every record holds, or the number of the first false one, 1 to 2,048. All
  *          records before that one hold.
  * Refuses  in this order:
