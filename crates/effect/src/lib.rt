@@ -7,10 +7,8 @@ ghost use Rattle.quasigroup.specs.Tables.{knownWidth};
 ghost use Rattle.sheet.specs.Read.{placeCount};
 ghost use Rattle.sheet.specs.Effect.{effect};
 ghost use Rattle.sheet.specs.Run.{vectorsIn};
-ghost use Rattle.sheet.specs.Progress.{startingAt, stateAfter};
 ghost use Rattle.sheet.specs.Sound.{SoundCommand};
 use sheet::Command;
-use sheet::Read;
 
 // The vectors after a command.
 pub fn apply(width: u32, sheet: &[u8], c: Command, vectors: &mut [u8])
@@ -21,22 +19,5 @@ pub fn apply(width: u32, sheet: &[u8], c: Command, vectors: &mut [u8])
         effect32::apply(sheet, c, vectors);
     } else {
         effect64::apply(sheet, c, vectors);
-    }
-}
-
-// The vectors after the command at the offset, where one stands, and the offset behind it; where none does, nothing moves.
-pub fn step(width: u32, sheet: &[u8], offset: usize, vectors: &mut [u8]) -> usize
-    requires { ⌜ (knownWidth width ≡ true) × (length (now vectors) ≡ placeCount * width) ⌝ }
-    ensures { λ r. let p = stateAfter 1 width (now (sheet .entry)) (startingAt offset (vectorsIn width (now (vectors .entry)))) in
-        ⌜ (r ≡ p .offset) × (vectorsIn width (now (vectors .exit)) ≡ p .vectors) ⌝ }
-{
-    match reader::read_command(width, sheet, offset) {
-        Read::Got(d) => {
-            let c = d.command;
-            apply(width, sheet, c, vectors);
-            d.next
-        }
-        Read::Fault(_) => offset,
-        Read::End => offset,
     }
 }

@@ -1,4 +1,5 @@
-// The interpreter of load sheets: the loops that do and undo commands over lent vectors, at a known width and with bytes for every vector.
+// The interpreter of load sheets: one command done, and the loops that do and undo commands, over lent vectors, at a known width and with bytes for every
+// vector.
 ghost use mathlib.Core.Path.{_≡_};
 ghost use mathlib.Core.Bool.{true};
 ghost use mathlib.Core.List.{reverse};
@@ -9,6 +10,7 @@ ghost use Rattle.sheet.specs.Read.{placeCount};
 ghost use Rattle.sheet.specs.Sheet.{scanFrom};
 ghost use Rattle.invertible.specs.RoundTrip.{Forward, Backward};
 ghost use Rattle.sheet.specs.Run.{step, steps, vectorsIn};
+ghost use Rattle.sheet.specs.Progress.{startingAt, stateAfter};
 use sheet::Read;
 
 fn from_u16(x: u16) -> usize
@@ -33,6 +35,23 @@ pub fn forward(width: u32, sheet: &[u8], vectors: &mut [u8])
             Read::Fault(_) => return,
             Read::End => return,
         }
+    }
+}
+
+// The vectors after the command at the offset, where one stands, and the offset behind it; where none does, nothing moves.
+pub fn step_forward(width: u32, sheet: &[u8], offset: usize, vectors: &mut [u8]) -> usize
+    requires { ⌜ (knownWidth width ≡ true) × (length (now vectors) ≡ placeCount * width) ⌝ }
+    ensures { λ r. let p = stateAfter 1 width (now (sheet .entry)) (startingAt offset (vectorsIn width (now (vectors .entry)))) in
+        ⌜ (r ≡ p .offset) × (vectorsIn width (now (vectors .exit)) ≡ p .vectors) ⌝ }
+{
+    match reader::read_command(width, sheet, offset) {
+        Read::Got(d) => {
+            let c = d.command;
+            effect::apply(width, sheet, c, vectors);
+            d.next
+        }
+        Read::Fault(_) => offset,
+        Read::End => offset,
     }
 }
 

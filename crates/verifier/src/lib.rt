@@ -19,7 +19,7 @@ pub fn first_false(width: u32, sheet: &[u8], records: &[u8], state: &mut [u8]) -
     let mut offset: usize = 0;
     let mut from: usize = 0;
     while from < records.len() {
-        let next = effect::step(width, sheet, offset, state);
+        let next = interpreter::step_forward(width, sheet, offset, state);
         if !comparison::record_holds(width, state, records, from) {
             let finding = comparison::finding(width, offset, state, records, from);
             return ReplayAnswer::FirstFalse(number, finding);

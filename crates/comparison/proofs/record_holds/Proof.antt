@@ -105,7 +105,7 @@ returns c =
     let a = p .args in
     holds-all (a .width) (bytewise (a .width) (p .pre .0)) (now (a .records)) (λ i. omega (arith, k .shared-slice-known2 .given i)) (a .from) (now (a .state))
     (λ i. omega (arith, k .before .shared-slice-known .given i)) (p .pre .2) (p .pre .1) (c .before .loop .bits) (c .before .loop .at) (c .before .loop .inv)
-    (omega (arith, c .loop-test .left))
+    (c .loop-test .left)
 
 pub record-holds-spec : {M : Type 1} → statement M
 record-holds-spec =

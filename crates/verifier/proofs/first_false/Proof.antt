@@ -23,8 +23,8 @@ loop-holds c =
     let a = p .args in
     (search needs, begin (a .width) (now (a .sheet)) (now (a .state)) (now (a .records)) (p .pre .0) (p .pre .1) (p .pre .2))
 
-step-requires : tie.Need-step-requires Inv-loop μ-loop
-step-requires c κs =
+step-forward-requires : tie.Need-step-forward-requires Inv-loop μ-loop
+step-forward-requires c κs =
     let l = c .before .before .loop .inv .1 in
     (l .known, l .bytes)
 
@@ -51,7 +51,7 @@ returns c =
     let h = c .before .before .before in
     let v = h .before .before .before .before in
     let t = v .before .before in
-    found-false (t .before .loop .inv .1) (t .loop-test .taken) (v .step .last .1 .1 .1 .0) (v .step .ensures .0) (v .step .ensures .1) (h .record-holds .ensures)
+    found-false (t .before .loop .inv .1) (t .loop-test .taken) (v .step-forward .last .1 .1 .1 .0) (v .step-forward .ensures .0) (v .step-forward .ensures .1) (h .record-holds .ensures)
     (not-true (h .record-holds .result) (c .before .before .if1 .taken)) (c .finding .ensures)
 
 add-number : tie.Need-add-number Inv-loop μ-loop
@@ -78,7 +78,7 @@ loop-again c =
     let t = v .before .before in
     let l = t .before .loop .inv .1 in (
       search (needs, t .before .loop .inv .0),
-      goes-on l (t .loop-test .taken) (v .step .last .1 .1 .1 .0) (v .step .ensures .0) (v .step .ensures .1) (c .before .record-holds .ensures)
+      goes-on l (t .loop-test .taken) (v .step-forward .last .1 .1 .1 .0) (v .step-forward .ensures .0) (v .step-forward .ensures .1) (c .before .record-holds .ensures)
           (not-false (c .before .record-holds .result) (c .if1 .left)) (search needs),
     )
 
@@ -92,5 +92,5 @@ pub first-false-spec : {M : Type 1} → statement M
 first-false-spec =
     tie.close
     (tie.spec
-    Inv-loop μ-loop loop-holds step-requires record-holds-requires finding-requires same-length returns add-number
+    Inv-loop μ-loop loop-holds step-forward-requires record-holds-requires finding-requires same-length returns add-number
     add-from loop-less loop-again same-length-2 returns-2)

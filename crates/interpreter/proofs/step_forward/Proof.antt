@@ -6,8 +6,8 @@ use Rattle.sheet.specs.Run.{vectorsIn}
 use Rattle.sheet.specs.Progress.{RunState, startingAt}
 use Rattle.sheet.proofs.Sound.{got-sound}
 use Rattle.sheet.proofs.Progress.{after-read}
-use Rattle.effect.proofs.step.Statement.{statement}
-use Rattle.effect.proofs.step.Tie as tie
+use Rattle.interpreter.proofs.step_forward.Statement.{statement}
+use Rattle.interpreter.proofs.step_forward.Tie as tie
 
 apply-requires : tie.Need-apply-requires
 apply-requires c κs =
@@ -44,8 +44,8 @@ returns-3 c =
     (sym (r .read-command .ensures) ∙ c .enum-told2 .given .1)) in
     (ap (λ (p : RunState). p .offset) e, ap (λ (p : RunState). p .vectors) e)
 
-pub step-spec : {M : Type 1} → statement M
-step-spec =
+pub step-forward-spec : {M : Type 1} → statement M
+step-forward-spec =
     tie.close
     (tie.spec
     (λ c κs. search needs) (λ c. search needs) apply-requires (λ c. search needs) (λ c. search needs) (λ c. search needs)
