@@ -4,6 +4,7 @@
 #include <string.h>
 
 #include "../tests/harness/random.h"
+#include "../tests/harness/recording.h"
 #include "../tests/harness/rng.h"
 #include "../tests/harness/run_call.h"
 #include "../tests/harness/sheet_maker.h"
@@ -25,25 +26,6 @@ struct recording {
     uint8_t start[VECTORS_64], vectors[VECTORS_64];
     size_t records_len;
 };
-
-/* The state after each command, by slices of one. */
-static void record_by_slices(struct recording *recording)
-{
-    struct rng rng = {7};
-    const struct sheet *sheet = recording->sheet;
-    size_t len = EDONR_PLACES * (size_t)recording->width;
-    rng_fill(&rng, recording->start, len);
-    memcpy(recording->vectors, recording->start, len);
-    for (size_t i = 0; i < sheet->count; i++) {
-        uint64_t answer =
-            edonr_run_slice(recording->width, recording->vectors, len, sheet->bytes,
-                            sheet->len, (uint32_t)sheet->offsets[i], 1);
-        if (edonr_refusal(answer) != 0)
-            abort();
-        memcpy(records + i * len, recording->vectors, len);
-    }
-    recording->records_len = sheet->count * len;
-}
 
 static void run_forward(void *context, unsigned long rounds)
 {
@@ -82,7 +64,11 @@ static void replay_by_reference(void *context, unsigned long rounds)
 static void bench_sheet(uint32_t width, const char *kind, const struct sheet *sheet)
 {
     struct recording recording = {.width = width, .sheet = sheet};
-    record_by_slices(&recording);
+    struct rng rng = {7};
+    rng_fill(&rng, recording.start, sizeof recording.start);
+    memcpy(recording.vectors, recording.start, sizeof recording.start);
+    recording.records_len = sheet->count * EDONR_PLACES * (size_t)width;
+    record_run(width, recording.start, sheet, sheet->count, records);
     struct work works[WAYS] = {[RUN] = {run_forward, &recording, 1, 0},
                                [REPLAY] = {replay, &recording, 1, 0},
                                [REFERENCE] = {replay_by_reference, &recording, 1, 0}};
