@@ -1,4 +1,5 @@
--- Document 01, "What each operation refuses", and for 14, 16 and 17 document 02, Papers 5, 13 and 10: the number of each refusal, and an answer as one number for C.
+-- Document 01, "What each operation refuses", and for 14, 16 and 17 document 02, Papers 5, 13 and 10: the number of each refusal, and an answer as one
+-- number for C.
 use Prim.Native.Nat.{ℕ, _+_, _*_, _^_}
 use Rattle.answer.specs.declared.Answer.{Answer}
 use Rattle.answer.specs.declared.Answer.the-variants.{Done, Refused}

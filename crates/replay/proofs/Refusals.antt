@@ -42,8 +42,8 @@ module _ (w : ℕ) (s b : List ℕ) where
     as-run q i e = answers (sym (refused-alike placeCount w _ s _ (recordTests w (length r) (commandCount w s)) refl (ap isDone e)) ∙ e)
 
     module _ (t : isDone (runAnswer w s b) ≡ true) where
-      broken : (length r % recordLength w ≡ 0 → ⊥) → replayAnswer w s b r ≡ Refused Records 0
-      broken h = answers {a = Answers.Refused Records 0} (by-records t r ∙ rw (ne-eqb (length r % recordLength w) 0 h))
+      partial : (length r % recordLength w ≡ 0 → ⊥) → replayAnswer w s b r ≡ Refused Records 0
+      partial h = answers {a = Answers.Refused Records 0} (by-records t r ∙ rw (ne-eqb (length r % recordLength w) 0 h))
 
       module _ (whole : length r % recordLength w ≡ 0) where
         surplus : commandCount w s < recordCount w r → replayAnswer w s b r ≡ Refused RecordCount 0
@@ -61,7 +61,7 @@ pub replays-refuse : ReplaysRefuse
 replays-refuse w s b r =
     record {
       as-run = as-run w s b r;
-      broken = broken w s b r;
+      partial = partial w s b r;
       surplus = surplus w s b r;
       others = λ t h l. ap isRefused (answers w s b r (passed w s b r t h l)) ∙ not-refused w s b r (recordCount w r) 0;
       none = none w s b;

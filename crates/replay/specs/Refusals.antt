@@ -18,7 +18,7 @@ use Rattle.replay.specs.Replay.{recordCount, replayAnswer, isRefused}
 -- than commands; and else not. So fewer records than commands are fine; and of none, every record holds
 pub record Refuses (w : ℕ) (s b r : List ℕ) : Type 0 where
   pub as-run : (q : Refusal) (i : ℕ) → runAnswer w s b ≡ Answers.Refused q i → replayAnswer w s b r ≡ Refused q i
-  pub broken : isDone (runAnswer w s b) ≡ true → (length r % recordLength w ≡ 0 → ⊥) → replayAnswer w s b r ≡ Refused Records 0
+  pub partial : isDone (runAnswer w s b) ≡ true → (length r % recordLength w ≡ 0 → ⊥) → replayAnswer w s b r ≡ Refused Records 0
   pub surplus : isDone (runAnswer w s b) ≡ true → length r % recordLength w ≡ 0 → commandCount w s < recordCount w r
       → replayAnswer w s b r ≡ Refused RecordCount 0
   pub others : isDone (runAnswer w s b) ≡ true → length r % recordLength w ≡ 0 → recordCount w r ≤ commandCount w s
