@@ -34,7 +34,8 @@ use Rattle.replay.specs.declared.ReplayAnswer.{ReplayAnswer}
 use Rattle.replay.specs.declared.ReplayAnswer.the-variants.{Holds, FirstFalse, Refused}
 use Rattle.replay.specs.Difference.{inOrder, recordAt, agreeing, sameWords, difference}
 use Rattle.replay.specs.Replay.{stateBy, recorded, replayed, firstFalse, recordCount, recordTests, replayTests, answered, isRefused}
-use Rattle.replay.specs.Findings.{recordBytes, recordWord, stateBytes, stateWord, IsTrue, AllTrue, Named, Says, ReplaysFind, RecordsApart, recordingFrom, RecordingsHold, StatesAreRuns}
+use Rattle.replay.specs.Findings.{recordBytes, recordWord, stateBytes, stateWord, IsTrue, AllTrue, Named, Says}
+use Rattle.replay.specs.Findings.{ReplaysFind, RecordsApart, recordingFrom, RecordingsHold, StatesAreRuns}
 use Rattle.replay.proofs.Agreeing.{at-most, same-before, differs-at, agree-self, agree-all}
 use Rattle.replay.proofs.Refusals.{replays-refuse}
 use Rattle.replay.proofs.Words.{record-below, record-length, record-vectors, same-records, same-bytes}
@@ -97,7 +98,8 @@ module _ (w : ℕ) (hw : Bytewise w) (s : List ℕ) (hs : Bytes s) (b : List ℕ
     module _ (hr : Bytes r) (h : j < recordCount w r) where
       within : j * recordLength w + recordLength w ≤ length r
       within =
-          omega (arith, records-within (recordLength w) r, suc-mul j (recordLength w), mul-le-mul-right {m = suc j} {n = recordCount w r} (recordLength w) (omega (arith, h)))
+          let most = mul-le-mul-right {m = suc j} {n = recordCount w r} (recordLength w) (omega (arith, h)) in
+          omega (arith, records-within (recordLength w) r, suc-mul j (recordLength w), most)
 
       holds-true : sameWords x y ≡ true → IsTrue w s b r j
       holds-true t =
@@ -127,7 +129,8 @@ module _ (w : ℕ) (hw : Bytewise w) (s : List ℕ) (hs : Bytes s) (b : List ℕ
         same-at : (p n : ℕ) → p < 8 → n < 8 → p * 8 + n < i → recordWord w r j p n ≡ stateWord w s b j p n
         same-at p n hp hn l = sym (recorded-word p n hp hn) ∙ same-before x y (p * 8 + n) l ∙ replayed-word p n hp hn
 
-        named : planOf w s .outcome ≡ Sound → j < commandCount w s → ((k : ℕ) → k < j → IsTrue w s b r k) → Named w s b r j (difference (stateBy w s b j .offset) x y)
+        named : planOf w s .outcome ≡ Sound → j < commandCount w s → ((k : ℕ) → k < j → IsTrue w s b r k)
+            → Named w s b r j (difference (stateBy w s b j .offset) x y)
         named sound command before =
             let p : i / 8 < 8 = omega (arith, i-below) in
             let n : i % 8 < 8 = omega arith in
@@ -162,8 +165,8 @@ module _ (w : ℕ) (hw : Bytewise w) (s : List ℕ) (hs : Bytes s) (b : List ℕ
   up-to k h e i l (yes p) = subst (IsTrue w s b r) (sym p) e
   up-to k h e i l (no q) = h i (omega (arith, q))
 
-  says-from : Bytes r → planOf w s .outcome ≡ Sound → recordCount w r ≤ commandCount w s → (n k : ℕ) → k + n ≡ recordCount w r → ((i : ℕ) → i < k → IsTrue w s b r i)
-      → Says w s b r (firstFalse n w s b r k)
+  says-from : Bytes r → planOf w s .outcome ≡ Sound → recordCount w r ≤ commandCount w s → (n k : ℕ) → k + n ≡ recordCount w r
+      → ((i : ℕ) → i < k → IsTrue w s b r i) → Says w s b r (firstFalse n w s b r k)
   says-from hr sound few zero k e h = λ j l. h j (omega (arith, l))
   says-from hr sound few (suc n) k e h =
       let l : k < recordCount w r = omega arith in
@@ -223,7 +226,8 @@ says-by : (w : ℕ) (s b r : List ℕ) → Bytes s → Bytes b → Bytes r → (
 says-by w s b r hs hb hr (Answers.Refused q i) e = e
 says-by w s b r hs hb hr (Answers.Done n) e =
     let t = ap isDone e in
-    says-from w (known w s b r t) s hs b hb r hr (sound w s b r t) (enough w s b r t) (recordCount w r) 0 (zero-add (recordCount w r)) (λ i l. absurd (omega (arith, l)))
+    says-from w (known w s b r t) s hs b hb r hr (sound w s b r t) (enough w s b r t) (recordCount w r) 0 (zero-add (recordCount w r))
+    (λ i l. absurd (omega (arith, l)))
 
 tests-done : (a : Answer) (x : ReplayAnswer) → isRefused (answered a x) ≡ false → isDone a ≡ true
 tests-done (Answers.Done n) x e = refl

@@ -94,12 +94,22 @@ module _ {w : ℕ} {s b r : List ℕ} {size number offset from : ℕ} {state : L
   pub some-bytes : 0 < recordLength w
   some-bytes = sized w (c .known) .some
 
-  pub holds-all : length r ≤ from → Holds ≡ firstFalse (recordCount w r) w s b r 0
-  holds-all h =
-      let n = recordCount w r in
-      let all : n ≤ k = no-fewer k n (recordLength w) some-bytes (omega (arith, c .whole, c .at-record)) (decLe n k) in
-      let none : n - k ≡ 0 = omega arith in
-      ap (λ (n : ℕ). firstFalse n w s b r k) (sym none) ∙ c .rest
+  -- none are left
+  module _ (h : length r ≤ from) where
+    all : recordCount w r ≤ k
+    all = no-fewer k (recordCount w r) (recordLength w) some-bytes (omega (arith, c .whole, c .at-record)) (decLe (recordCount w r) k)
+
+    pub holds-all : Holds ≡ firstFalse (recordCount w r) w s b r 0
+    holds-all =
+        let none : recordCount w r - k ≡ 0 = omega (arith, all) in
+        ap (λ (n : ℕ). firstFalse n w s b r k) (sym none) ∙ c .rest
+
+    pub all-done : vectorsIn w state ≡ stateBy w s b (recordCount w r) .vectors
+    all-done =
+        let e : k ≡ recordCount w r = omega (arith, all, c .within) in
+        c .vectors-are ∙ ap (λ (n : ℕ). stateBy w s b n .vectors) e
+
+  -- one is left
 
   module _ (h : from < length r) where
     one-left : k < recordCount w r
@@ -119,6 +129,9 @@ module _ {w : ℕ} {s b r : List ℕ} {size number offset from : ℕ} {state : L
       expected : recordAt w last 0 ≡ replayed w s b k
       expected =
           sym (record-vectors w (bytewise w (c .known)) last 0) ∙ ap inOrder (next-vectors w s b k state (c .offset-is) (c .vectors-are) ev)
+
+      pub one-done : vectorsIn w last ≡ stateBy w s b number .vectors
+      one-done = next-vectors w s b k state (c .offset-is) (c .vectors-are) ev ∙ ap (λ (n : ℕ). stateBy w s b n .vectors) (sym (c .numbered))
 
       found : recordAt w r from ≡ recorded w r k
       found = ap (recordAt w r) (c .at-record)

@@ -4,15 +4,18 @@ ghost use mathlib.Core.Bool.{true};
 ghost use Prim.Native.Nat.{_%_};
 ghost use lib.ListN.{length};
 ghost use Rattle.quasigroup.specs.Tables.{knownWidth};
+ghost use Rattle.sheet.specs.Run.{vectorsIn};
 ghost use Rattle.shuffle.specs.Shuffle.{recordLength};
-ghost use Rattle.replay.specs.Replay.{recordCount, firstFalse};
+ghost use Rattle.replay.specs.Replay.{recordCount, stateBy, firstFalse};
+ghost use Rattle.verifier.specs.Done.{commandsDone};
 use replay::ReplayAnswer;
 
-// The first false record. `state` is lent with the starting vectors and goes from one command to the next; what is left in it is of no use to a caller, and
-// nothing is said of it.
+// The first false record. `state` is lent with the starting vectors and goes from one command to the next, as far as records are looked at.
 pub fn first_false(width: u32, sheet: &[u8], records: &[u8], state: &mut [u8]) -> ReplayAnswer
     requires { ⌜ (knownWidth width ≡ true) × (length (now state) ≡ recordLength width) × (length (now records) % recordLength width ≡ 0) ⌝ }
     ensures { λ r. let l = now (records .entry) in ⌜ r ≡ firstFalse (recordCount width l) width (now (sheet .entry)) (now (state .entry)) l 0 ⌝ }
+    ensures { λ r. let p = stateBy width (now (sheet .entry)) (now (state .entry)) (commandsDone r (recordCount width (now (records .entry)))) in
+        ⌜ vectorsIn width (now (state .exit)) ≡ p .vectors ⌝ }
 {
     let size = state.len();
     let mut number: u64 = 1;

@@ -31,7 +31,9 @@ first-false-requires c κs =
     let i = q .before .before .before .before .before .before .before in
     let p = i .before .before .before .before .before .before in
     let a = p .args in
-    (p .pre .0, search (needs, p .pre .1), whole-records (a .width) (length (now (a .records))) (q .before .before .commands .given .0 .0) (m .enum-told .given .0 .0) (q .records-answer .ensures) (m .enum-told .given .1))
+    let whole = whole-records (a .width) (length (now (a .records))) (q .before .before .commands .given .0 .0) (m .enum-told .given .0 .0)
+    (q .records-answer .ensures) (m .enum-told .given .1) in
+    (p .pre .0, search (needs, p .pre .1), whole)
 
 returns-2 : tie.Need-returns-2
 returns-2 c =
@@ -48,7 +50,7 @@ returns-2 c =
     let e : length (now (a .vectors)) ≡ placeCount * (a .width) = eqb-true (length (now (a .vectors))) (placeCount * (a .width)) h in
     replayed (a .width) (now (a .sheet)) (now (a .vectors)) (now (a .records)) (p .pre .0) h (sym (d .commands .given .1) ∙ k .check .ensures .0)
     (q .records-answer .ensures) (m .enum-told .given .0 .0) (m .enum-told .given .1) (o .copy-at .last .0)
-    (copied (now (a .vectors)) (now (a .state)) (e ∙ sym (p .pre .1)) (o .copy-at .ensures)) (y .first-false .ensures)
+    (copied (now (a .vectors)) (now (a .state)) (e ∙ sym (p .pre .1)) (o .copy-at .ensures)) (y .first-false .ensures .0)
 
 returns-3 : tie.Need-returns-3
 returns-3 c =
@@ -59,7 +61,8 @@ returns-3 c =
     let p = i .before .before .before .before .before .before in
     let a = p .args in
     records-refused (a .width) (now (a .sheet)) (now (a .vectors)) (now (a .records)) (p .pre .0) (goes-on (i .before .vectors-fit .ensures) (i .if1 .left))
-    (sym (d .commands .given .1) ∙ k .check .ensures .0) (q .records-answer .ensures) (c .before .r .given .0 .0) (c .before .r .given .0 .1 .0) (c .before .r .given .1)
+    (sym (d .commands .given .1) ∙ k .check .ensures .0) (q .records-answer .ensures) (c .before .r .given .0 .0) (c .before .r .given .0 .1 .0)
+    (c .before .r .given .1)
 
 returns-4 : tie.Need-returns-4
 returns-4 c =

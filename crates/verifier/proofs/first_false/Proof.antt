@@ -6,7 +6,7 @@ use borrow.Author.Tests.{not-true, not-false}
 use denote.Ref.{now}
 use lib.ListN.{length}
 use Rattle.answer.proofs.Tests as Tests
-use Rattle.verifier.proofs.Loop.{Replayed, begin, some-bytes, room, few, holds-all, found-false, goes-on}
+use Rattle.verifier.proofs.Loop.{Replayed, begin, some-bytes, room, few, holds-all, all-done, one-done, found-false, goes-on}
 use Rattle.verifier.proofs.first_false.Statement.{statement}
 use Rattle.verifier.proofs.first_false.Tie as tie
 
@@ -51,8 +51,13 @@ returns c =
     let h = c .before .before .before in
     let v = h .before .before .before .before in
     let t = v .before .before in
-    found-false (t .before .loop .inv .1) (t .loop-test .taken) (v .step-forward .last .1 .1 .1 .0) (v .step-forward .ensures .0) (v .step-forward .ensures .1) (h .record-holds .ensures)
-    (not-true (h .record-holds .result) (c .before .before .if1 .taken)) (c .finding .ensures)
+    let l = t .before .loop .inv .1 in
+    let last = v .step-forward .last .1 .1 .1 .0 in
+    let e = v .step-forward .ensures in (
+      found-false l (t .loop-test .taken) last (e .0) (e .1) (h .record-holds .ensures)
+          (not-true (h .record-holds .result) (c .before .before .if1 .taken)) (c .finding .ensures),
+      one-done l (t .loop-test .taken) last (e .0) (e .1),
+    )
 
 add-number : tie.Need-add-number Inv-loop μ-loop
 add-number c =
@@ -76,9 +81,10 @@ loop-again : tie.Need-loop-again Inv-loop μ-loop
 loop-again c =
     let v = c .before .before .before .before .before in
     let t = v .before .before in
-    let l = t .before .loop .inv .1 in (
+    let l = t .before .loop .inv .1 in
+    let e = v .step-forward .ensures in (
       search (needs, t .before .loop .inv .0),
-      goes-on l (t .loop-test .taken) (v .step-forward .last .1 .1 .1 .0) (v .step-forward .ensures .0) (v .step-forward .ensures .1) (c .before .record-holds .ensures)
+      goes-on l (t .loop-test .taken) (v .step-forward .last .1 .1 .1 .0) (e .0) (e .1) (c .before .record-holds .ensures)
           (not-false (c .before .record-holds .result) (c .if1 .left)) (search needs),
     )
 
@@ -86,7 +92,7 @@ same-length-2 : tie.Need-same-length-2 Inv-loop μ-loop
 same-length-2 c = c .before .loop .inv .0
 
 returns-2 : tie.Need-returns-2 Inv-loop μ-loop
-returns-2 c = holds-all (c .before .loop .inv .1) (c .loop-test .left)
+returns-2 c = (holds-all (c .before .loop .inv .1) (c .loop-test .left), all-done (c .before .loop .inv .1) (c .loop-test .left))
 
 pub first-false-spec : {M : Type 1} → statement M
 first-false-spec =
