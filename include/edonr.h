@@ -18,7 +18,8 @@
  *   and no others.
  *
  * What a caller must keep
- *   The buffers of one call do not overlap, and each has the length given with it; one of
+ *   The buffers of one call do not overlap, and each has the length given with it: its
+ *   number of bytes, or, for a list of larger elements (G), its number of elements. One of
  *   length 0 is neither read nor written, and its pointer may be NULL. A pointer to a
  *   struct (D, F) points to one of its kind. No call can test this, and nothing else is
  *   asked of the caller: every other argument is checked.
@@ -527,6 +528,32 @@ uint64_t edonr_first_false_record(uint32_t width, const uint8_t *vectors,
                                   size_t vectors_len, const uint8_t *sheet,
                                   size_t sheet_len, const uint8_t *records,
                                   size_t records_len, struct edonr_finding *finding);
+
+/* ============================ G. Flipped bits ============================ */
+
+#define EDONR_REFUSED_PAIRS 19 /* the length of pairs is no multiple of 64, or too long */
+#define EDONR_PAIR_BYTES 64    /* two digests of 256 bits */
+#define EDONR_PAIRS_MAX 1024   /* pairs of one call, at most: 65,536 bytes */
+
+/*
+ * Counts the bits in which the two digests of a pair differ, for each of several pairs: how
+ * many bits of a digest flipped, where one of them is of a changed message. A record is
+ * here such a pair, two digests of 32 bytes one behind the other, and not one of F; records
+ * lie one behind the other.
+ *
+ * Reads    records, records_len bytes: at most EDONR_PAIRS_MAX records; none is fine.
+ * Writes   on success the first records_len / 64 elements of counts: element k is the
+ *          number of bits in which the digests of record k differ, k from 0 on, and is 0 to
+ *          256. Elements behind them stay. counts is a list of 16-bit numbers, and
+ *          counts_len is its number of elements, not of bytes.
+ * Returns  the sum of the counts written, at most 262,144.
+ * Refuses  in this order:
+ *         19 EDONR_REFUSED_PAIRS   records_len is no multiple of EDONR_PAIR_BYTES, or is
+ *                                  over 65,536;
+ *          4 EDONR_REFUSED_OUTPUT  counts_len is under records_len / 64.
+ */
+uint64_t edonr_flipped_bits(const uint8_t *records, size_t records_len, uint16_t *counts,
+                            size_t counts_len);
 
 #ifdef __cplusplus
 }

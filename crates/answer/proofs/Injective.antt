@@ -8,7 +8,8 @@ use lib.Dec.{eqb, ltb, lit≤}
 use Rattle.answer.specs.declared.Answer.{Answer}
 use Rattle.answer.specs.declared.Answer.the-variants.{Done, Refused}
 use Rattle.answer.specs.declared.Refusal.{Refusal}
-use Rattle.answer.specs.declared.Refusal.the-variants.{Size, State, Length, Output, Width, Operand, Sheet, Opcode, Truncated, Place, SamePlace, Start, Records, RecordCount}
+use Rattle.answer.specs.declared.Refusal.the-variants.{Size, State, Length, Output, Width, Operand, Sheet, Opcode, Truncated, Place, SamePlace}
+use Rattle.answer.specs.declared.Refusal.the-variants.{Start, Records, RecordCount, Pairs}
 use Rattle.answer.specs.Number.{refusalNumber, numberOf, markedNumber}
 use Rattle.answer.specs.Refuse.{unless, isDone}
 use Rattle.answer.proofs.Refuse.{unless-cases}
@@ -29,7 +30,8 @@ refusalOf n =
     (cond (eqb n 10) Place
     (cond (eqb n 11) SamePlace
     (cond (eqb n 14) Start
-    (cond (eqb n 16) Records RecordCount))))))))))))
+    (cond (eqb n 16) Records
+    (cond (eqb n 17) RecordCount Pairs)))))))))))))
 
 found : (r : Refusal) → refusalOf (refusalNumber r) ≡ r
 found Size = refl
@@ -46,6 +48,7 @@ found SamePlace = refl
 found Start = refl
 found Records = refl
 found RecordCount = refl
+found Pairs = refl
 
 refusal-one : (r s : Refusal) → refusalNumber r ≡ refusalNumber s → r ≡ s
 refusal-one r s e = sym (found r) ∙ ap refusalOf e ∙ found s
@@ -65,6 +68,7 @@ positive SamePlace = lit≤ tt
 positive Start = lit≤ tt
 positive Records = lit≤ tt
 positive RecordCount = lit≤ tt
+positive Pairs = lit≤ tt
 
 refused-one : (r s : Refusal) (i j : ℕ) → i < 2 ^ 32 → j < 2 ^ 32 → numberOf (Refused r i) ≡ numberOf (Refused s j)
     → _≡_ {A = Answer} (Refused r i) (Refused s j)

@@ -1,10 +1,11 @@
--- Document 01, "What each operation refuses", and for 14, 16 and 17 document 02, Papers 5, 13 and 10: the number of each refusal, and an answer as one
--- number for C.
+-- Document 01, "What each operation refuses", and for 14, 16, 17 and 19 document 02, Papers 5, 13, 10 and 14: the number of each refusal, and an answer as
+-- one number for C.
 use Prim.Native.Nat.{ℕ, _+_, _*_, _^_}
 use Rattle.answer.specs.declared.Answer.{Answer}
 use Rattle.answer.specs.declared.Answer.the-variants.{Done, Refused}
 use Rattle.answer.specs.declared.Refusal.{Refusal}
-use Rattle.answer.specs.declared.Refusal.the-variants.{Size, State, Length, Output, Width, Operand, Sheet, Opcode, Truncated, Place, SamePlace, Start, Records, RecordCount}
+use Rattle.answer.specs.declared.Refusal.the-variants.{Size, State, Length, Output, Width, Operand, Sheet, Opcode, Truncated, Place, SamePlace}
+use Rattle.answer.specs.declared.Refusal.the-variants.{Start, Records, RecordCount, Pairs}
 
 abbrev pub refusalNumber : Refusal → ℕ
 refusalNumber Size = 1
@@ -21,6 +22,7 @@ refusalNumber SamePlace = 11
 refusalNumber Start = 14
 refusalNumber Records = 16
 refusalNumber RecordCount = 17
+refusalNumber Pairs = 19
 
 -- a success's own number, or 2^32 times the refusal number plus the offset
 abbrev pub numberOf : Answer → ℕ

@@ -20,6 +20,7 @@ pub enum Refusal {
     Start,
     Records,
     RecordCount,
+    Pairs,
 }
 
 // The offset of a refusal is that of the first byte of the first faulty command of a sheet, and 0 for a refusal that has no place.
@@ -51,6 +52,7 @@ pub fn refusal_number(r: Refusal) -> u64
         Refusal::Start => 14,
         Refusal::Records => 16,
         Refusal::RecordCount => 17,
+        Refusal::Pairs => 19,
     }
 }
 

@@ -1,12 +1,9 @@
 -- The lines of a sheet, command by command, and a listing by what the check found.
-use mathlib.Core.Path.{_≡_, ap, ap₂, sym, _∙_}
-use mathlib.Core.List.{List, [], _++_}
-use Prim.Native.Nat.{ℕ, _+_}
-use native.Mathlib.Omega.{arith}
-use lib.ListN.{length, length-append}
-use lib.Seq.{sets}
+use mathlib.Core.Path.{_≡_, ap, _∙_}
+use mathlib.Core.List.{List, _++_}
+use Prim.Native.Nat.{ℕ}
+use lib.ListN.{length}
 use Rattle.answer.specs.declared.Refusal.{Refusal}
-use Rattle.answer.specs.Number.{refusalNumber}
 use Rattle.sheet.specs.declared.Decoded.{Decoded}
 use Rattle.sheet.specs.declared.Read.{Read}
 use Rattle.sheet.specs.declared.Read.the-variants.{Got, Fault, End}
@@ -18,36 +15,25 @@ use Rattle.sheet.proofs.Rest.{rest-got, rest-fault, rest-end}
 use Rattle.sheet.proofs.Checked.{checked, faulted, whole-scanned}
 use Rattle.listing.specs.Listing.{line, lineOf, lines, endLine, refusedLine, listing}
 use Rattle.text.specs.Pushed.{Pushed}
-use Rattle.text.proofs.Pushed.{sets-append}
+use Rattle.text.proofs.Partly.{Partly, one-more, all-stored}
 
 -- the lines of the commands from offset i on
 abbrev pub rest : ℕ → List ℕ → ℕ → List ℕ
 rest w s i = lines w s (scanFrom (length s) w s i .offsets)
 
-module _ (w : ℕ) (s l₀ l : List ℕ) (next i : ℕ) (now : sets l next (rest w s i) ≡ sets l₀ 0 (rest w s 0)) (far : next + length (rest w s i) ≡ length (rest w s 0)) where
+module _ (w : ℕ) (s : List ℕ) {l₀ l : List ℕ} {next : ℕ} (i : ℕ) (now : Partly l₀ 0 (rest w s 0) l next (rest w s i)) where
   module _ (d : Decoded) (e : readAt w s i ≡ Got d) where
     rest-more : rest w s i ≡ line i (d .command) ++ rest w s (d .next)
     rest-more = ap (λ (p : Plan). lines w s (p .offsets)) (rest-got placeCount w s i d e) ∙ ap (λ (r : Read). lineOf i r ++ rest w s (d .next)) e
 
-    pub lines-more : {m : List ℕ} {k : ℕ} → Pushed l next (line i (d .command)) m k
-        → (sets m k (rest w s (d .next)) ≡ sets l₀ 0 (rest w s 0)) × (k + length (rest w s (d .next)) ≡ length (rest w s 0))
-    lines-more {m} {k} p =
-        let f = p .behind in
-        let here = line i (d .command) in
-        let later = rest w s (d .next) in
-        let g : length (rest w s i) ≡ length here + length later = ap length rest-more ∙ length-append here later in (
-          ap₂ {C = List ℕ} (λ a b. sets a b later) (p .stored) f ∙ sym (sets-append l next here later) ∙ ap (sets l next) (sym rest-more) ∙ now,
-          omega arith,
-        )
-
-  over : rest w s i ≡ [] → Pushed l₀ 0 (rest w s 0) l next
-  over e = record { stored = rw e at now; behind = let f : next + 0 ≡ length (rest w s 0) = rw e at far in omega arith }
+    pub lines-more : {m : List ℕ} {k : ℕ} → Pushed l next (line i (d .command)) m k → Partly l₀ 0 (rest w s 0) m k (rest w s (d .next))
+    lines-more p = one-more (rest w s i) (line i (d .command)) (rest w s (d .next)) now rest-more p
 
   pub lines-fault : (r : Refusal) → readAt w s i ≡ Fault r → Pushed l₀ 0 (rest w s 0) l next
-  lines-fault r e = over (ap (λ (p : Plan). lines w s (p .offsets)) (rest-fault placeCount w s i r e))
+  lines-fault r e = all-stored (rest w s i) now (ap (λ (p : Plan). lines w s (p .offsets)) (rest-fault placeCount w s i r e))
 
   pub lines-end : readAt w s i ≡ End → Pushed l₀ 0 (rest w s 0) l next
-  lines-end e = over (ap (lines w s) (rest-end placeCount w s i e))
+  lines-end e = all-stored (rest w s i) now (ap (lines w s) (rest-end placeCount w s i e))
 
 -- a sheet that was found sound, and one that was not
 module _ (w : ℕ) (s : List ℕ) where
@@ -56,5 +42,5 @@ module _ (w : ℕ) (s : List ℕ) where
       let c = checked w s e in
       rw (c .sound, c .count, whole-scanned w s e)
 
-  pub listed-faulty : (r : Refusal) (i : ℕ) → Faulty r i ≡ summary w s (planOf w s) → refusedLine (refusalNumber r) i ≡ listing w s
+  pub listed-faulty : (r : Refusal) (i : ℕ) → Faulty r i ≡ summary w s (planOf w s) → refusedLine r i ≡ listing w s
   listed-faulty r i e = rw (faulted w s r i e)

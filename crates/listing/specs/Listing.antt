@@ -2,7 +2,7 @@
 use mathlib.Core.List.{List, [], _∷_, _++_}
 use Prim.Native.Nat.{ℕ}
 use lib.ListN.{length}
-use Rattle.answer.specs.Number.{refusalNumber}
+use Rattle.answer.specs.declared.Refusal.{Refusal}
 use Rattle.sheet.specs.declared.Places.{Places}
 use Rattle.sheet.specs.declared.Command.{Command}
 use Rattle.sheet.specs.declared.Command.the-variants.{Lmul, Rmul, Ldiv, Rdiv, Swap, Flip, Kmul, Kdiv}
@@ -11,6 +11,7 @@ use Rattle.sheet.specs.declared.Read.the-variants.{Got, Fault, End}
 use Rattle.sheet.specs.Read.{readAt}
 use Rattle.sheet.specs.Sheet.{Outcome, Sound, Faulty, planOf}
 use Rattle.text.specs.Decimal.{decimal, spaced}
+use Rattle.text.specs.Label.{labelled, refused}
 
 -- the name of a command
 abbrev pub name : Command → List ℕ
@@ -53,16 +54,16 @@ lines w s (i ∷ l) = lineOf i (readAt w s i) ++ lines w s l
 
 -- end, the sheet's length, the number of commands
 abbrev pub endLine : ℕ → ℕ → List ℕ
-endLine n count = (101 ∷ 110 ∷ 100 ∷ []) ++ (spaced n ++ (spaced count ++ (10 ∷ [])))
+endLine n count = labelled (101 ∷ 110 ∷ 100 ∷ []) n ++ (spaced count ++ (10 ∷ []))
 
 -- refused, the refusal's number, its offset
-abbrev pub refusedLine : ℕ → ℕ → List ℕ
-refusedLine number i = (114 ∷ 101 ∷ 102 ∷ 117 ∷ 115 ∷ 101 ∷ 100 ∷ []) ++ (spaced number ++ (spaced i ++ (10 ∷ [])))
+abbrev pub refusedLine : Refusal → ℕ → List ℕ
+refusedLine r i = refused r ++ (spaced i ++ (10 ∷ []))
 
 -- a sheet s at width w, with the offsets l of its commands
 abbrev pub listed : ℕ → List ℕ → List ℕ → Outcome → List ℕ
 listed w s l Sound = lines w s l ++ endLine (length s) (length l)
-listed w s l (Faulty r i) = refusedLine (refusalNumber r) i
+listed w s l (Faulty r i) = refusedLine r i
 
 abbrev pub listing : ℕ → List ℕ → List ℕ
 listing w s = let p = planOf w s in listed w s (p .offsets) (p .outcome)

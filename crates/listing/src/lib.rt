@@ -4,7 +4,6 @@ ghost use mathlib.Core.List.{_∷_};
 ghost use Prim.Native.Nat.{_+_, _<_, _≤_};
 ghost use lib.ListN.{length};
 ghost use lib.Seq.{sets};
-ghost use Rattle.answer.specs.Number.{refusalNumber};
 ghost use Rattle.sheet.specs.Sheet.{scanFrom};
 ghost use Rattle.listing.specs.Listing.{both, line, lines, endLine, refusedLine, listing};
 ghost use Rattle.listing.specs.Listing.{name as nameOf};
@@ -115,22 +114,19 @@ fn push_end(out: &mut [u8], at: usize, size: usize, count: usize) -> usize
     ensures { λ r. ⌜ r ≤ at + 64 ⌝ }
 {
     let text = [b'e', b'n', b'd'];
-    let first = text::push_text(out, at, &text);
-    let second = text::push_spaced(out, first, size);
-    let third = text::push_spaced(out, second, count);
-    text::push(out, third, 10)
+    let first = text::push_labelled(out, at, &text, size);
+    let second = text::push_spaced(out, first, count);
+    text::push(out, second, 10)
 }
 
 // The line of a refused sheet.
 fn push_refused(out: &mut [u8], r: Refusal, offset: u32) -> usize
-    ensures { λ n. ⌜ Pushed (now (out .entry)) 0 (refusedLine (refusalNumber r) offset) (now (out .exit)) n ⌝ }
+    ensures { λ n. ⌜ Pushed (now (out .entry)) 0 (refusedLine r offset) (now (out .exit)) n ⌝ }
     ensures { λ n. ⌜ n ≤ 64 ⌝ }
 {
-    let text = [b'r', b'e', b'f', b'u', b's', b'e', b'd'];
-    let first = text::push_text(out, 0, &text);
-    let second = text::push_spaced(out, first, answer::refusal_number(r) as usize);
-    let third = text::push_spaced(out, second, offset as usize);
-    text::push(out, third, 10)
+    let first = text::push_refused(out, r);
+    let second = text::push_spaced(out, first, offset as usize);
+    text::push(out, second, 10)
 }
 
 // What the lister prints for a sheet, from the start of the lent array on, as far as it has places; the answer is the text's length.

@@ -11,6 +11,33 @@ use lib.Seq.{sets, drop-cons, take-add, drop-drop, getD-at, getD-take, getD-drop
 use Rattle.memory.proofs.Lists.{fromAt, spread, front}
 use Rattle.memory.specs.Bytes.{wordAt, wordsAt, bytes, bytesOf, Bytes}
 
+-- an element that was read as a byte is one
+pub byte-read : {x y : ℕ} → (x ≡ y) × (x < 256) → y < 256
+byte-read p = rw (p .0) at (p .1)
+
+-- k elements from place i on are bytes
+abbrev pub BytesAt : ℕ → List ℕ → ℕ → Type 0
+BytesAt zero s i = Unit {0}
+BytesAt (suc k) s i = (getD s i 0 < 256) × BytesAt k s (i + 1)
+
+-- the bytes of the word at i are the bytes there
+word-loaded : (s : List ℕ) (k i : ℕ) → BytesAt k s i → i + k ≤ length s → bytes k (wordAt k s i) ≡ take k (drop i s)
+word-loaded s zero i small h = refl
+word-loaded s (suc k) i small h =
+    let b = getD s i 0 in
+    let lt : b < 256 = small .0 in
+    let w = wordAt k s (i + 1) in
+    let m : (b + 256 * w) % 256 ≡ b = omega arith in
+    let d : (b + 256 * w) / 256 ≡ w = omega arith in
+    let r : i + 1 + k ≤ length s = omega arith in
+    let n : i < length s = omega arith in
+    ap (λ (x : ℕ). x ∷ bytes k ((b + 256 * w) / 256)) m ∙ ap (λ (x : ℕ). b ∷ bytes k x) d ∙ ap (λ (l : List ℕ). b ∷ l) (word-loaded s k (i + 1) (small .1) r)
+    ∙ ap (λ (j : ℕ). b ∷ take k (drop j s)) (add-one i) ∙ ap (take (suc k)) (sym (drop-cons s i 0 n))
+
+pub loaded : (s : List ℕ) (k i : ℕ) {r : ℕ} → r ≡ wordAt k s i → BytesAt k s i → i + k ≤ length s
+    → (r ≡ wordAt k s i) × (bytes k r ≡ take k (drop i s))
+loaded s k i e small h = (e, ap (bytes k) e ∙ word-loaded s k i small h)
+
 module _ (s : List ℕ) (small : Bytes s) where
   -- a word of k bytes is below 256^k
   pub word-below : (k i : ℕ) → wordAt k s i < 256 ^ k
@@ -22,19 +49,12 @@ module _ (s : List ℕ) (small : Bytes s) where
   words-below k (suc n) i zero = word-below k i
   words-below k (suc n) i (suc j) = words-below k n (i + k) j
 
-  -- the bytes of the word at i are the bytes there
+  bytes-at : (k i : ℕ) → BytesAt k s i
+  bytes-at zero i = tt
+  bytes-at (suc k) i = (small i, bytes-at k (i + 1))
+
   pub bytes-word : (k i : ℕ) → i + k ≤ length s → bytes k (wordAt k s i) ≡ take k (drop i s)
-  bytes-word zero i h = refl
-  bytes-word (suc k) i h =
-      let b = getD s i 0 in
-      let lt : b < 256 = small i in
-      let w = wordAt k s (i + 1) in
-      let m : (b + 256 * w) % 256 ≡ b = omega arith in
-      let d : (b + 256 * w) / 256 ≡ w = omega arith in
-      let r : i + 1 + k ≤ length s = omega arith in
-      let n : i < length s = omega arith in
-      ap (λ (x : ℕ). x ∷ bytes k ((b + 256 * w) / 256)) m ∙ ap (λ (x : ℕ). b ∷ bytes k x) d ∙ ap (λ (l : List ℕ). b ∷ l) (bytes-word k (i + 1) r)
-      ∙ ap (λ (j : ℕ). b ∷ take k (drop j s)) (add-one i) ∙ ap (take (suc k)) (sym (drop-cons s i 0 n))
+  bytes-word k i h = word-loaded s k i (bytes-at k i) h
 
   -- the bytes of the words from i are the bytes there
   pub bytes-words : (k n i : ℕ) → i + n * k ≤ length s → bytesOf k (wordsAt k n s i) ≡ take (n * k) (drop i s)

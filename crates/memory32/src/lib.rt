@@ -2,7 +2,7 @@
 ghost use mathlib.Core.Path.{_≡_};
 ghost use mathlib.Core.List.{_++_};
 ghost use Prim.Native.Nat.{_+_, _<_, _≤_};
-ghost use lib.ListN.{length, drop};
+ghost use lib.ListN.{length, take, drop};
 ghost use lib.Seq.{sets};
 ghost use Rattle.memory.specs.Bytes.{wordAt, wordsAt, bytes, bytesOf};
 
@@ -17,6 +17,7 @@ fn byte(x: u8) -> u32
 pub fn load(s: &[u8], at: usize) -> u32
     requires { ⌜ at + 4 ≤ length (now s) ⌝ }
     ensures { λ r. ⌜ r ≡ wordAt 4 (now (s .entry)) at ⌝ }
+    ensures { λ r. ⌜ bytes 4 r ≡ take 4 (drop at (now (s .entry))) ⌝ }
 {
     let b = at + 1;
     let c = b + 1;

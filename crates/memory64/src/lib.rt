@@ -2,7 +2,7 @@
 ghost use mathlib.Core.Path.{_≡_};
 ghost use mathlib.Core.List.{_++_};
 ghost use Prim.Native.Nat.{_+_, _<_, _≤_};
-ghost use lib.ListN.{length, drop};
+ghost use lib.ListN.{length, take, drop};
 ghost use lib.Seq.{sets};
 ghost use Rattle.memory.specs.Bytes.{wordAt, wordsAt, bytes, bytesOf};
 
@@ -17,6 +17,7 @@ fn byte(x: u8) -> u64
 pub fn load(s: &[u8], at: usize) -> u64
     requires { ⌜ at + 8 ≤ length (now s) ⌝ }
     ensures { λ r. ⌜ r ≡ wordAt 8 (now (s .entry)) at ⌝ }
+    ensures { λ r. ⌜ bytes 8 r ≡ take 8 (drop at (now (s .entry))) ⌝ }
 {
     let b = at + 1;
     let c = b + 1;

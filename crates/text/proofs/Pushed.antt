@@ -1,11 +1,10 @@
 -- Texts stored one after the other.
 use mathlib.Core.Path.{_≡_, ap, ap₂, sym, _∙_}
 use mathlib.Core.List.{List, [], _∷_, _++_}
-use Prim.Native.Nat.{ℕ, suc, _+_, _<_}
-use native.Mathlib.Numerals.{add-one}
+use Prim.Native.Nat.{ℕ, suc, _+_}
 use native.Mathlib.Omega.{arith}
-use lib.ListN.{length, getD, drop, set, length-append}
-use lib.Seq.{sets, drop-cons}
+use lib.ListN.{length, set, length-append}
+use lib.Seq.{sets}
 use Rattle.text.specs.Pushed.{Pushed}
 
 pub sets-append : (l : List ℕ) (i : ℕ) (a b : List ℕ) → sets l i (a ++ b) ≡ sets (sets l i a) (i + length a) b
@@ -23,15 +22,6 @@ then {l} {m} {n} {a} {b} {i} {j} {k} p q =
       stored = q .stored ∙ ap₂ {C = List ℕ} (λ t h. sets t h b) (p .stored) f ∙ sym (sets-append l i a b);
       behind = omega (arith, length-append a b);
     }
-
--- a text of which i bytes are stored, and the next one
-module _ (text l₀ l : List ℕ) (at i : ℕ) where
-  pub text-more : {m : List ℕ} {next k : ℕ} → sets l next (drop i text) ≡ sets l₀ at text → i < length text → Pushed l next (getD text i 0 ∷ []) m k
-      → sets m k (drop (i + 1) text) ≡ sets l₀ at text
-  text-more {m} {next} {k} now h p =
-      let f : k ≡ suc next = p .behind ∙ omega arith in
-      let t : drop i text ≡ getD text i 0 ∷ drop (i + 1) text = drop-cons text i 0 h ∙ ap (λ (j : ℕ). getD text i 0 ∷ drop j text) (sym (add-one i)) in
-      ap₂ {C = List ℕ} (λ a b. sets a b (drop (i + 1) text)) (p .stored) f ∙ (rw t at now)
 
 -- a text that is stored from the start
 pub finished : {l t out u : List ℕ} {k : ℕ} → Pushed l 0 t out k → t ≡ u → (out ≡ sets l 0 u) × (k ≡ length u)

@@ -5,7 +5,9 @@ ghost use mathlib.Core.List.{[], _∷_};
 ghost use Prim.Native.Nat.{_+_, _<_, _≤_};
 ghost use lib.ListN.{length, set};
 ghost use Rattle.text.specs.Decimal.{decimal, spaced};
+ghost use Rattle.text.specs.Label.{labelled, refused};
 ghost use Rattle.text.specs.Pushed.{Pushed};
+use answer::Refusal;
 
 // A byte at place `at`, where there is one.
 fn store(out: &mut [u8], at: usize, b: u8)
@@ -58,4 +60,23 @@ pub fn push_spaced(out: &mut [u8], at: usize, n: usize) -> usize
 {
     let next = push(out, at, b' ');
     push_number(out, next, n)
+}
+
+// A word, a space and a number.
+pub fn push_labelled(out: &mut [u8], at: usize, word: &[u8], n: usize) -> usize
+    requires { ⌜ at + length (now word) + 21 ≤ 1048576 ⌝ }
+    ensures { λ r. ⌜ Pushed (now (out .entry)) at (labelled (now (word .entry)) n) (now (out .exit)) r ⌝ }
+    ensures { λ r. ⌜ r ≤ at + length (now (word .entry)) + 21 ⌝ }
+{
+    let next = push_text(out, at, word);
+    push_spaced(out, next, n)
+}
+
+// The word `refused` and the number of a refusal, at the start.
+pub fn push_refused(out: &mut [u8], r: Refusal) -> usize
+    ensures { λ n. ⌜ Pushed (now (out .entry)) 0 (refused r) (now (out .exit)) n ⌝ }
+    ensures { λ n. ⌜ n ≤ 28 ⌝ }
+{
+    let word = [b'r', b'e', b'f', b'u', b's', b'e', b'd'];
+    push_labelled(out, 0, &word, answer::refusal_number(r) as usize)
 }

@@ -16,13 +16,13 @@ load-requires-2 c κs =
 returns : tie.Need-returns
 returns c =
     let a = c .before .before .before .args in
-    c .load .ensures ∙ sym (ap (λ (w : ℕ). wordAt (w / 8) (now (a .s)) (a .at)) (c .before .if1 .taken))
+    c .load .ensures .0 ∙ sym (ap (λ (w : ℕ). wordAt (w / 8) (now (a .s)) (a .at)) (c .before .if1 .taken))
 
 returns-2 : tie.Need-returns-2
 returns-2 c =
     let p = c .before .before .before in
     let a = p .args in
-    c .load2 .ensures ∙ sym (ap (λ (w : ℕ). wordAt (w / 8) (now (a .s)) (a .at)) (other-width (a .width) (p .pre .0) (c .before .if1 .left)))
+    c .load2 .ensures .0 ∙ sym (ap (λ (w : ℕ). wordAt (w / 8) (now (a .s)) (a .at)) (other-width (a .width) (p .pre .0) (c .before .if1 .left)))
 
 pub word-at-spec : {M : Type 1} → statement M
 word-at-spec = tie.close (tie.spec (λ c κs. search needs) (λ c. search needs) load-requires-2 returns returns-2)

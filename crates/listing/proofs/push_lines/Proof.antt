@@ -1,11 +1,11 @@
 use mathlib.Core.Path.{_≡_, refl, sym, _∙_}
-use Prim.Native.Nat.{_+_, _-_, _*_, _≤_}
+use Prim.Native.Nat.{_-_, _*_, _≤_}
 use native.Mathlib.Omega.{arith}
 use borrow.Author.Needs.{needs}
 use denote.Ref.{now}
 use lib.ListN.{length}
-use lib.Seq.{sets}
 use Rattle.sheet.proofs.Sound.{got-sound}
+use Rattle.text.proofs.Partly.{Partly, none-yet}
 use Rattle.listing.proofs.Lines.{rest, lines-more, lines-fault, lines-end}
 use Rattle.listing.proofs.push_lines.Statement.{statement}
 use Rattle.listing.proofs.push_lines.Tie as tie
@@ -13,13 +13,15 @@ use Rattle.listing.proofs.push_lines.Tie as tie
 abbrev Inv-loop : tie.InvT-loop
 Inv-loop width sheet out₀ next₀ at₀ out next at =
     (length sheet ≤ 4096) × (at ≤ length sheet) × (next ≤ 34 * at) × (length out ≡ length out₀)
-    × (sets out next (rest width sheet at) ≡ sets out₀ 0 (rest width sheet 0)) × (next + length (rest width sheet at) ≡ length (rest width sheet 0))
+    × Partly out₀ 0 (rest width sheet 0) out next (rest width sheet at)
 
 abbrev μ-loop : tie.MeasureT-loop
 μ-loop width sheet out₀ next₀ at₀ out next at = length sheet - at
 
 loop-holds : tie.Need-loop-holds Inv-loop μ-loop
-loop-holds c = (c .before .before .pre, omega arith, omega arith, refl, refl, omega arith)
+loop-holds c =
+    let p = c .before .before in
+    (p .pre, omega arith, omega arith, refl, none-yet (now (p .args .out)) 0 (rest (p .args .width) (now (p .args .sheet)) 0))
 
 read-command-requires : tie.Need-read-command-requires Inv-loop μ-loop
 read-command-requires c κs = search needs
@@ -48,9 +50,8 @@ loop-again c =
     let e = sym (g .before .before .read-command .ensures) ∙ g .d .given .1 in
     let h = got-sound (a .width) (now (a .sheet)) (p .loop .at) e in
     let q = t .push-line .ensures in
-    let m = lines-more (a .width) (now (a .sheet)) (now (a .out)) (p .loop .out) (p .loop .next) (p .loop .at) (p .loop .inv .4) (p .loop .inv .5)
-    (g .d .given .0 .0) e (q .0) in
-    (p .loop .inv .0, h .within, omega (arith, h .on, q .1), search needs, m .0, m .1)
+    let m = lines-more (a .width) (now (a .sheet)) (p .loop .at) (p .loop .inv .4) (g .d .given .0 .0) e (q .0) in
+    (p .loop .inv .0, h .within, omega (arith, h .on, q .1), search needs, m)
 
 enum-told : tie.Need-enum-told Inv-loop μ-loop
 enum-told c = search needs
@@ -62,7 +63,8 @@ returns : tie.Need-returns Inv-loop μ-loop
 returns c =
     let p = c .before .before .before in
     let a = p .before .before .before .args in (
-      lines-fault (a .width) (now (a .sheet)) (now (a .out)) (p .loop .out) (p .loop .next) (p .loop .at) (p .loop .inv .4) (p .loop .inv .5) (c .enum-told .given .0 .0) (sym (c .before .before .read-command .ensures) ∙ c .enum-told .given .1),
+      lines-fault (a .width) (now (a .sheet)) (p .loop .at) (p .loop .inv .4) (c .enum-told .given .0 .0)
+      (sym (c .before .before .read-command .ensures) ∙ c .enum-told .given .1),
       omega arith,
     )
 
@@ -76,7 +78,7 @@ returns-2 : tie.Need-returns-2 Inv-loop μ-loop
 returns-2 c =
     let p = c .before .before .before in
     let a = p .before .before .before .args in (
-      lines-end (a .width) (now (a .sheet)) (now (a .out)) (p .loop .out) (p .loop .next) (p .loop .at) (p .loop .inv .4) (p .loop .inv .5) (sym (c .before .before .read-command .ensures) ∙ c .enum-told2 .given .1),
+      lines-end (a .width) (now (a .sheet)) (p .loop .at) (p .loop .inv .4) (sym (c .before .before .read-command .ensures) ∙ c .enum-told2 .given .1),
       omega arith,
     )
 

@@ -1,23 +1,28 @@
-use mathlib.Core.Path.{_≡_, refl, ap, _∙_}
-use Prim.Native.Nat.{ℕ, _+_, _-_, _≤_}
+use mathlib.Core.Path.{_≡_, refl, ap, sym, _∙_}
+use mathlib.Core.List.{List, [], _∷_, _++_}
+use Prim.Native.Nat.{ℕ, _+_, _-_, _≤_, _<_}
+use native.Mathlib.Numerals.{add-one}
 use native.Mathlib.Omega.{arith}
 use borrow.Author.Needs.{needs}
 use denote.Ref.{now}
-use lib.ListN.{length, drop, drop-of-length-le}
-use lib.Seq.{sets}
-use Rattle.text.proofs.Pushed.{text-more}
+use lib.ListN.{length, getD, drop, drop-of-length-le}
+use lib.Seq.{drop-cons}
+use Rattle.text.proofs.Partly.{Partly, none-yet, one-more, all-stored}
 use Rattle.text.proofs.push_text.Statement.{statement}
 use Rattle.text.proofs.push_text.Tie as tie
 
+drop-next : (t : List ℕ) (i : ℕ) → i < length t → drop i t ≡ (getD t i 0 ∷ []) ++ drop (i + 1) t
+drop-next t i h = drop-cons t i 0 h ∙ ap (λ (j : ℕ). getD t i 0 ∷ drop j t) (sym (add-one i))
+
 abbrev Inv-loop : tie.InvT-loop
 Inv-loop out₀ at text next₀ i₀ out next i =
-    (at + length text ≤ 1048576) × (i ≤ length text) × (next ≡ at + i) × (length out ≡ length out₀) × (sets out next (drop i text) ≡ sets out₀ at text)
+    (at + length text ≤ 1048576) × (i ≤ length text) × (next ≡ at + i) × (length out ≡ length out₀) × Partly out₀ at text out next (drop i text)
 
 abbrev μ-loop : tie.MeasureT-loop
 μ-loop out₀ at text next₀ i₀ out next i = length text - i
 
 loop-holds : tie.Need-loop-holds Inv-loop μ-loop
-loop-holds c = (c .before .before .pre, omega arith, omega arith, refl, refl)
+loop-holds c = let p = c .before .before in (p .pre, omega arith, omega arith, refl, none-yet (now (p .args .out)) (p .args .at) (now (p .args .text)))
 
 shared-slice-read-push : tie.Need-shared-slice-read-push Inv-loop μ-loop
 shared-slice-read-push c = search needs
@@ -36,12 +41,14 @@ loop-again c =
     let k = c .before .before in
     let p = k .before .before .before .before in
     let a = p .before .before .before .args in
+    let t = now (a .text) in
+    let i = p .loop .i in
     let q = k .push .ensures in (
       p .loop .inv .0,
       omega arith,
       omega (arith, q .behind),
       search needs,
-      text-more (now (a .text)) (now (a .out)) (p .loop .out) (a .at) (p .loop .i) (p .loop .inv .4) (omega arith) q,
+      one-more (drop i t) (getD t i 0 ∷ []) (drop (i + 1) t) (p .loop .inv .4) (drop-next t i (omega arith)) q,
     )
 
 same-length : tie.Need-same-length Inv-loop μ-loop
@@ -50,10 +57,9 @@ same-length c = c .before .loop .inv .3
 returns : tie.Need-returns Inv-loop μ-loop
 returns c =
     let p = c .before in
-    let a = p .before .before .before .args in
-    let e : p .loop .i ≡ length (now (a .text)) = omega arith in
-    let l : length (now (a .text)) ≤ p .loop .i = omega arith in
-    record { stored = rw (drop-of-length-le (now (a .text)) l) at (p .loop .inv .4); behind = p .loop .inv .2 ∙ ap (λ (n : ℕ). a .at + n) e }
+    let t = now (p .before .before .before .args .text) in
+    let l : length t ≤ p .loop .i = omega arith in
+    all-stored (drop (p .loop .i) t) (p .loop .inv .4) (drop-of-length-le t l)
 
 pub push-text-spec : {M : Type 1} → statement M
 push-text-spec =

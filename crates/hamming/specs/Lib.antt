@@ -1,0 +1,4 @@
+pub mod Distance
+pub mod Metric
+pub mod Flips
+pub mod Counted
