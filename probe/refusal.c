@@ -30,6 +30,8 @@ static const struct refusal refusals[] = {
     {EDONR_REFUSED_RECORDS, "EDONR_REFUSED_RECORDS", "the last record is not whole"},
     {EDONR_REFUSED_RECORD_COUNT, "EDONR_REFUSED_RECORD_COUNT",
      "there are more records than commands"},
+    {EDONR_REFUSED_PAIRS, "EDONR_REFUSED_PAIRS",
+     "the last pair of digests is not whole, or there are over 1,024"},
 };
 
 /* A faulty machine may answer with a number that the header does not know. */

@@ -1,7 +1,7 @@
 /*
  * Messages past 2^29 and 2^32 bytes against the reference, in one call and in pieces,
- * records of more than 2^32 bytes, and outputs of more than 2^32 bytes. At 2^29 bytes the
- * length in bits passes 32 bits, at 2^32 the length in bytes does.
+ * records of more than 2^32 bytes, and outputs of more than 2^32 bytes or counts. At 2^29
+ * bytes the length in bits passes 32 bits, at 2^32 the length in bytes does.
  *
  * The message is a megabyte of random bytes that is mapped again and again, so it takes
  * no more memory than that. The period is no power of two, and so a place in the message
@@ -28,6 +28,7 @@
 #include "harness/shuffle_call.h"
 #include "reference/digest.h"
 #include "reference/division.h"
+#include "reference/flips.h"
 #include "reference/hash.h"
 #include "reference/sheet.h"
 
@@ -125,8 +126,8 @@ static void compare_size(enum kind kind, uint32_t size, unsigned first)
 static uint8_t *huge_out;
 static uint8_t want_out[SEEN_OUT];
 
-/* Of an output of over 2^32 bytes the front is looked at; the rest is never touched. Cut
-   off at 32 bits its length would be too short for any call. */
+/* Of an output of over 2^32 bytes or counts the front is looked at; the rest is never
+   touched. Cut off at 32 bits its length would be too short for any call. */
 static size_t prepare_out(void)
 {
     random_fill(want_out, sizeof want_out);
@@ -191,10 +192,24 @@ static void compare_shuffle(enum direction direction, uint32_t width)
     check_out(shuffle_names[direction], width, got, want);
 }
 
+/* More records than the list has counts, if its length is cut off at 32 bits. */
+static void compare_flipped_bits(void)
+{
+    enum { COUNT = 100, PAIRS_LEN = COUNT * EDONR_PAIR_BYTES };
+    uint16_t counts[COUNT];
+    size_t len = prepare_out();
+    void *list = huge_out;
+    uint64_t want = reference_flipped_bits(message, PAIRS_LEN, counts, len);
+    uint64_t got = edonr_flipped_bits(message, PAIRS_LEN, list, len);
+    memcpy(want_out, counts, sizeof counts);
+    check_out("flipped bits", COUNT, got, want);
+}
+
+/* The output has room for as many counts, which take two bytes each. */
 static void compare_outputs(void)
 {
-    check_group("outputs of over 2^32 bytes");
-    huge_out = mmap(NULL, (size_t)(AT_32 + SEEN_OUT), PROT_READ | PROT_WRITE,
+    check_group("outputs of over 2^32 bytes or counts");
+    huge_out = mmap(NULL, (size_t)(2 * AT_32 + SEEN_OUT), PROT_READ | PROT_WRITE,
                     MAP_PRIVATE | MAP_ANONYMOUS | MAP_NORESERVE, -1, 0);
     stop_unless(huge_out != MAP_FAILED);
     for (unsigned i = 0; i < OPERATIONS; i++) {
@@ -207,6 +222,7 @@ static void compare_outputs(void)
         compare_shuffle(d, 32);
         compare_shuffle(d, 64);
     }
+    compare_flipped_bits();
     for (unsigned i = 0; i < 4; i++) {
         compare_digest(kind_sizes[i / 2][i % 2]);
         compare_finish((enum kind)(i / 2), kind_sizes[i / 2][i % 2]);

@@ -7,6 +7,7 @@
 #include "edonr.h"
 #include "harness/check.h"
 #include "harness/digest_call.h"
+#include "harness/flips_call.h"
 #include "harness/hash_call.h"
 #include "harness/inverse_sheet_call.h"
 #include "harness/lent.h"
@@ -148,6 +149,17 @@ static void compare_replays(void)
     }
 }
 
+/* Without records nothing is counted, and no list is needed. */
+static void compare_flipped_bits(void)
+{
+    static const size_t lens[] = {PAIR, 8 * PAIR, 1};
+    check_group("flipped bits");
+    for (unsigned n = 0; n < 4 * 3; n++) {
+        struct flips call = {bytes, buffer_len(n, 0, lens[n / 4]), buffer_len(n, 1, 8)};
+        check_flips_call(&call, NULL);
+    }
+}
+
 /* From an opened state and from made-up ones, in form and not. */
 static void compare_pieces(enum kind kind)
 {
@@ -259,6 +271,17 @@ static void check_replay_points(void)
           "nothing, at no width");
 }
 
+static void check_flips_points(void)
+{
+    uint16_t counts[2] = {7, 65535};
+    check_group("answers of flipped bits as numbers");
+    check(edonr_flipped_bits(NULL, 0, counts, 2) == 0, "no records");
+    check(edonr_flipped_bits(NULL, 0, NULL, 0) == 0, "neither records nor list");
+    check(edonr_flipped_bits(bytes, PAIR, NULL, 0) == REFUSED(4), "a record and no list");
+    check(edonr_flipped_bits(bytes, 1, NULL, 0) == REFUSED(19), "a byte and no list");
+    check(counts[0] == 7 && counts[1] == 65535, "a list without records is changed");
+}
+
 int main(int argc, char **argv)
 {
     check_program("compare_null", argc, argv);
@@ -273,11 +296,13 @@ int main(int argc, char **argv)
     compare_steps();
     compare_shuffles();
     compare_replays();
+    compare_flipped_bits();
     for (enum kind kind = NARROW; kind < KINDS; kind++)
         compare_pieces(kind);
     check_points();
     check_sheet_points();
     check_shuffle_points();
     check_replay_points();
+    check_flips_points();
     return check_finish();
 }

@@ -1,5 +1,5 @@
 /*
- * fuzz [rounds]: all nineteen calls with random arguments, sound, nearly sound and
+ * fuzz [rounds]: all twenty calls with random arguments, sound, nearly sound and
  * nonsense, each compared with the reference. The number of rounds is fixed, so that two
  * runs from one seed are the same.
  */
@@ -10,6 +10,7 @@
 
 #include "harness/check.h"
 #include "harness/digest_call.h"
+#include "harness/flips_call.h"
 #include "harness/hash_call.h"
 #include "harness/hash_maker.h"
 #include "harness/inverse_sheet_call.h"
@@ -31,7 +32,7 @@ enum {
     MOST_MESSAGE = 1 << 16,
     MOST_OUT = 200,
     MOST_FUZZED = 16, /* records */
-    CALLS = 19
+    CALLS = 20
 };
 
 static uint8_t bytes[MOST_MESSAGE];
@@ -273,6 +274,21 @@ static bool fuzz_replay(void)
     return is_refusal(check_replay_call(&replay, NULL));
 }
 
+/* Mostly whole records, now and then around the most of them. Lengths over those that are
+   lent here are claimed only: they are refused, since they are over the most. */
+static bool fuzz_flips(void)
+{
+    uint64_t few = random_below(random_below(16) == 0 ? MOST_FUZZED : 3);
+    uint64_t count = random_below(256) == 0 ? MOST_PAIRS + 1 - few : few;
+    size_t len = (size_t)fuzz_number(count * PAIR);
+    size_t counts_len = fuzz_out_len(count, FLIPS_CALL_COUNTS);
+    random_pattern(bytes, len <= sizeof bytes ? len : 0);
+    if (len > sizeof bytes && len <= FLIPS_CALL_RECORDS)
+        len += (size_t)1 << 32;
+    struct flips flips = {bytes, len, counts_len};
+    return is_refusal(check_flips_call(&flips, NULL));
+}
+
 static bool fuzz_call(unsigned call)
 {
     enum kind kind = call % 2 == 0 ? NARROW : WIDE;
@@ -295,7 +311,8 @@ static bool fuzz_call(unsigned call)
     case 15: return fuzz_slice();
     case 16: return fuzz_shuffle(FORWARD);
     case 17: return fuzz_shuffle(BACKWARD);
-    default: return fuzz_replay();
+    case 18: return fuzz_replay();
+    default: return fuzz_flips();
     }
 }
 
@@ -306,14 +323,14 @@ int main(int argc, char **argv)
         "forward run",    "backward run",  "narrow opening", "wide opening",
         "narrow feeding", "wide feeding",  "narrow finish",  "wide finish",
         "forward step",   "backward step", "inverse sheet",  "slice",
-        "shuffle",        "unshuffle",     "replay",
+        "shuffle",        "unshuffle",     "replay",         "flipped bits",
     };
     unsigned long calls[CALLS] = {0}, refused[CALLS] = {0};
     int argument = check_program("fuzz", argc, argv);
     unsigned long rounds =
         argument < argc ? strtoul(argv[argument], NULL, 10) : DEFAULT_ROUNDS;
     reference_init();
-    check_group("nineteen calls with random arguments");
+    check_group("twenty calls with random arguments");
     for (unsigned long round = 0; round < rounds; round++) {
         unsigned call = (unsigned)random_below(CALLS);
         calls[call]++;

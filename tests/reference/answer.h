@@ -23,7 +23,8 @@ enum refusal {
     SAME_PLACE = 11,
     BAD_START = 14,
     BAD_RECORDS = 16,
-    TOO_MANY_RECORDS = 17
+    TOO_MANY_RECORDS = 17,
+    BAD_PAIRS = 19
 };
 
 /* The most bytes of one message. */

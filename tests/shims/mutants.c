@@ -1,7 +1,7 @@
 /*
  * Wrong archives: each call passes on to the archive's own, but for what the chosen mutant
  * does wrong. To be compiled with -DMUTANT=name, a name of the list below, and linked with
- * --wrap of all nineteen calls, so that the comparisons meet it in the archive's place.
+ * --wrap of all twenty calls, so that the comparisons meet it in the archive's place.
  */
 #include <stdbool.h>
 #include <string.h>
@@ -243,7 +243,31 @@ enum mutant {
     replay_sheet_by_32_bits,
     replay_records_by_32_bits,
     replay_without_sheet,
-    replay_without_records
+    replay_without_records,
+    flips_always_refused,
+    flips_of_first_digest,
+    flips_of_first_word,
+    flips_loses_last_word,
+    flips_of_record_before,
+    flips_of_neighbours,
+    flips_of_first,
+    flips_by_8_bits,
+    flips_adds_up,
+    flips_sum_of_last,
+    flips_sum_of_list,
+    flips_sum_short,
+    flips_sum_by_16_bits,
+    flips_writes_behind,
+    flips_changes_records,
+    flips_list_before_records,
+    flips_full_refused,
+    flips_takes_one_more,
+    flips_takes_digests,
+    flips_list_in_bytes,
+    flips_refused_writes,
+    flips_length_by_32_bits,
+    flips_list_by_32_bits,
+    flips_without_pointer
 };
 
 #define IS(name) (MUTANT == (name))
@@ -1479,4 +1503,132 @@ REPLAY(WRAP(first_false_record))
     if (IS(replay_changes_records) && records_len > 0)
         ((uint8_t *)records)[records_len - 1] ^= 1;
     return answer;
+}
+
+/* ---------------- flipped bits ---------------- */
+
+#define FLIPS(name)                                                                        \
+    uint64_t name(const uint8_t *records, size_t records_len, uint16_t *counts,            \
+                  size_t counts_len)
+
+FLIPS(REAL(flipped_bits));
+
+enum {
+    DIGEST_BYTES = EDONR_PAIR_BYTES / 2,
+    PAIRS_BYTES = EDONR_PAIRS_MAX * EDONR_PAIR_BYTES
+};
+
+struct flips {
+    const uint8_t *records;
+    size_t records_len;
+    uint16_t *counts;
+    size_t counts_len;
+};
+
+/* The counts of records, or of others in their place, into a list of the most counts. */
+static uint64_t count_into(uint16_t *list, const uint8_t *records, const struct flips *f)
+{
+    size_t len = f->counts_len < EDONR_PAIRS_MAX ? f->counts_len : EDONR_PAIRS_MAX;
+    return REAL(flipped_bits)(records, f->records_len, list, len);
+}
+
+/* What is read in place of a byte of the records. */
+static uint8_t other_byte(const struct flips *f, size_t at)
+{
+    const uint8_t *byte = f->records + at;
+    size_t in_digest = at % DIGEST_BYTES;
+    bool is_second = at % EDONR_PAIR_BYTES >= DIGEST_BYTES;
+    bool is_lost = (IS(flips_of_first_word) && in_digest >= 8) ||
+                   (IS(flips_loses_last_word) && in_digest >= DIGEST_BYTES - 8);
+    if (IS(flips_of_first_digest) && is_second)
+        return 0;
+    if (is_lost && is_second)
+        return byte[-DIGEST_BYTES];
+    if (IS(flips_of_record_before) && at >= EDONR_PAIR_BYTES)
+        return byte[-EDONR_PAIR_BYTES];
+    if (IS(flips_of_neighbours) && is_second && at + DIGEST_BYTES < f->records_len)
+        return byte[DIGEST_BYTES];
+    return *byte;
+}
+
+/* What is written for a record, by its number from 0, over what lay there before. */
+static uint16_t other_count(size_t number, uint16_t count, uint16_t before)
+{
+    if (IS(flips_of_first) && number > 0)
+        return before;
+    if (IS(flips_by_8_bits))
+        return (uint8_t)count;
+    return IS(flips_adds_up) ? before + count : count;
+}
+
+/* What is answered for counts that are written. */
+static uint64_t other_flips_answer(const struct flips *f, uint64_t sum)
+{
+    size_t count = f->records_len / EDONR_PAIR_BYTES;
+    uint64_t sum_of_list = 0;
+    for (size_t i = 0; IS(flips_sum_of_list) && i < f->counts_len; i++)
+        sum_of_list += f->counts[i];
+    if (IS(flips_sum_of_list))
+        return sum_of_list;
+    if (IS(flips_sum_of_last) && count > 0)
+        return f->counts[count - 1];
+    if (IS(flips_sum_by_16_bits))
+        return (uint16_t)sum;
+    return IS(flips_sum_short) && sum > 0 ? sum - 1 : sum;
+}
+
+/* A call that is not refused. */
+static uint64_t count_flips(struct flips f)
+{
+    static uint8_t others[PAIRS_BYTES];
+    uint16_t list[EDONR_PAIRS_MAX];
+    size_t count = f.records_len / EDONR_PAIR_BYTES;
+    for (size_t at = 0; at < f.records_len; at++)
+        others[at] = other_byte(&f, at);
+    uint64_t sum = count_into(list, others, &f);
+    for (size_t i = 0; i < count; i++)
+        f.counts[i] = other_count(i, list[i], f.counts[i]);
+    if (IS(flips_writes_behind) && f.counts_len > count)
+        f.counts[count] ^= 1;
+    if (IS(flips_changes_records) && count > 0)
+        ((uint8_t *)f.records)[f.records_len - 1] ^= 1;
+    return other_flips_answer(&f, sum);
+}
+
+static uint64_t other_flips_refusal(struct flips f, uint64_t answer)
+{
+    size_t len = f.records_len, count = len / EDONR_PAIR_BYTES;
+    bool fits = f.counts_len >= count;
+    bool takes_digest =
+        IS(flips_takes_digests) && len < PAIRS_BYTES && len % DIGEST_BYTES == 0;
+    bool takes_record = IS(flips_takes_one_more) && len == PAIRS_BYTES + EDONR_PAIR_BYTES;
+    if (IS(flips_refused_writes) && f.counts_len > 0)
+        f.counts[0] ^= 1;
+    if (IS(flips_list_before_records) && !fits)
+        return edonr_refused(EDONR_REFUSED_OUTPUT, 0);
+    if (!fits || (!takes_digest && !takes_record))
+        return answer;
+    f.records_len = takes_record ? PAIRS_BYTES : count * EDONR_PAIR_BYTES;
+    return count_flips(f);
+}
+
+FLIPS(WRAP(flipped_bits))
+{
+    uint16_t unused[EDONR_PAIRS_MAX];
+    struct flips f = {records, records_len, counts, counts_len};
+    if (IS(flips_length_by_32_bits))
+        f.records_len = (uint32_t)records_len;
+    if (IS(flips_list_by_32_bits))
+        f.counts_len = (uint32_t)counts_len;
+    if (IS(flips_list_in_bytes))
+        f.counts_len /= sizeof counts[0];
+    uint64_t answer = count_into(unused, records, &f);
+    if (!succeeds(answer))
+        return other_flips_refusal(f, answer);
+    if ((IS(flips_full_refused) && f.records_len == PAIRS_BYTES) ||
+        (IS(flips_without_pointer) && records == NULL))
+        return edonr_refused(EDONR_REFUSED_PAIRS, 0);
+    if (IS(flips_always_refused))
+        return edonr_refused(EDONR_REFUSED_OUTPUT, 0);
+    return count_flips(f);
 }

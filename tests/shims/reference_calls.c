@@ -8,6 +8,7 @@
 #include "edonr.h"
 #include "../reference/digest.h"
 #include "../reference/division.h"
+#include "../reference/flips.h"
 #include "../reference/product.h"
 #include "../reference/replay.h"
 #include "../reference/sheet.h"
@@ -101,6 +102,12 @@ uint64_t edonr_first_false_record(uint32_t width, const uint8_t *vectors,
 {
     return reference_first_false_record(width, vectors, vectors_len, sheet, sheet_len,
                                         records, records_len, (uint64_t *)finding);
+}
+
+uint64_t edonr_flipped_bits(const uint8_t *records, size_t records_len, uint16_t *counts,
+                            size_t counts_len)
+{
+    return reference_flipped_bits(records, records_len, counts, counts_len);
 }
 
 /*

@@ -2,7 +2,9 @@ use mathlib.Core.Path.{sym, _∙_}
 use native.Mathlib.Omega.{arith}
 use borrow.Author.Needs.{needs}
 use denote.Ref.{now}
+use Rattle.text.specs.Pushed.{Pushed}
 use Rattle.text.proofs.Pushed.{then, finished}
+use Rattle.flip_report.specs.Report.{totalLine}
 use Rattle.flip_report.proofs.Reported.{within, taken, few, reported, reported-refusal}
 use Rattle.flip_report.proofs.report.Statement.{statement}
 use Rattle.flip_report.proofs.report.Tie as tie
@@ -35,7 +37,9 @@ returns c =
     let g = p .before .before .before .before in
     let k = g .before .before .before in
     let a = k .before .before .before .before .args in
-    let f = finished (then (p .push-lines .ensures .0) (q .push-total .ensures .0))
+    let end = totalLine (g .sum .given .0 .0) in
+    let last : Pushed (p .push-lines .last .0) (p .push-lines .result) end (q .push-total .last .0) (q .push-total .result) = q .push-total .ensures .0 in
+    let f = finished (then (p .push-lines .ensures .0) last)
     (reported (now (a .records)) _ _ (sym (g .sum .given .1) ∙ k .flipped-bits .ensures .0) (k .flipped-bits .ensures .1)) in
     (f .0, (f .1, omega (arith, p .push-lines .ensures .1, q .push-total .ensures .1)))
 
