@@ -536,10 +536,10 @@ uint64_t edonr_first_false_record(uint32_t width, const uint8_t *vectors,
 #define EDONR_PAIRS_MAX 1024   /* pairs of one call, at most: 65,536 bytes */
 
 /*
- * Counts the bits in which the two digests of a pair differ, for each of several pairs: how
- * many bits of a digest flipped, where one of them is of a changed message. A record is
- * here such a pair, two digests of 32 bytes one behind the other, and not one of F; records
- * lie one behind the other.
+ * Counts the bits in which two digests differ, for several pairs of them. If the two are
+ * those of a message and of the same message with one bit changed, the count says how many
+ * bits of the digest flipped. A record is here such a pair, two digests of 32 bytes one
+ * behind the other, and not one of F; records lie one behind the other.
  *
  * Reads    records, records_len bytes: at most EDONR_PAIRS_MAX records; none is fine.
  * Writes   on success the first records_len / 64 elements of counts: element k is the
@@ -549,7 +549,7 @@ uint64_t edonr_first_false_record(uint32_t width, const uint8_t *vectors,
  * Returns  the sum of the counts written, at most 262,144.
  * Refuses  in this order:
  *         19 EDONR_REFUSED_PAIRS   records_len is no multiple of EDONR_PAIR_BYTES, or is
- *                                  over 65,536;
+ *                                  over EDONR_PAIRS_MAX times that, 65,536;
  *          4 EDONR_REFUSED_OUTPUT  counts_len is under records_len / 64.
  */
 uint64_t edonr_flipped_bits(const uint8_t *records, size_t records_len, uint16_t *counts,

@@ -21,7 +21,7 @@ ghost use Rattle.pipe.specs.Call.{stepAnswer, stepBytes};
 ghost use Rattle.shuffle.specs.Shuffle.{recordsAnswer, shuffleOut, unshuffleOut};
 ghost use Rattle.replay.specs.Replay.{replayAnswer};
 ghost use Rattle.replay.specs.Number.{replayNumber, findingAfter};
-ghost use Rattle.hamming.specs.Flips.{flipsAnswer, countsAfter};
+ghost use Rattle.hamming.specs.Counts.{flippedAnswer, countsAfter};
 ghost use Rattle.narrow.specs.Outcomes.{narrowOf, hashOf as ofNarrow, fed as fedNarrow};
 ghost use Rattle.wide.specs.Outcomes.{wideOf, hashOf as ofWide, fed as fedWide};
 use narrow::Narrow;
@@ -145,13 +145,13 @@ pub extern "C" fn edonr_unshuffle(width: u32, records: &[u8], out: &mut [u8]) ->
     answer::marked_number(shuffler::unshuffle(width, records, out))
 }
 
-// The bits in which the two digests of each record differ, into the first elements of `counts`, one a record.
+// In how many bits the two digests of each record differ, into the first elements of `counts`, one a record.
 #[no_mangle]
 pub extern "C" fn edonr_flipped_bits(records: &[u8], counts: &mut [u16]) -> u64
-    ensures { λ r. ⌜ r ≡ numberOf (flipsAnswer (now (records .entry)) (length (now (counts .entry)))) ⌝ }
+    ensures { λ r. ⌜ r ≡ numberOf (flippedAnswer (now (records .entry)) (length (now (counts .entry)))) ⌝ }
     ensures { λ _. ⌜ now (counts .exit) ≡ countsAfter (now (records .entry)) (now (counts .entry)) ⌝ }
 {
-    answer::number(flip_counter::flipped_bits(records, counts))
+    answer::number(distances::flipped_bits(records, counts))
 }
 
 // The pipe after the block, in its place.

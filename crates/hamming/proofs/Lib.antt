@@ -3,4 +3,8 @@ pub mod Distance
 pub mod Metric
 pub mod Words
 pub mod Counts
+pub mod Tests
+pub mod Refusals
 pub mod Counted
+pub mod Fitting
+pub mod Ended

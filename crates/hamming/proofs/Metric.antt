@@ -1,4 +1,4 @@
--- How large a distance gets, its two orders, and when it is 0.
+-- How large a distance gets, its two orders, the way round, and when it is 0.
 use mathlib.Core.Path.{_≡_, refl, ap₂, sym}
 use mathlib.Core.Bool.{Bool, true, false, cond}
 use mathlib.Core.List.{List, [], _∷_}
@@ -54,6 +54,27 @@ distance-comm [] (b ∷ t) = refl
 distance-comm (a ∷ s) [] = refl
 distance-comm (a ∷ s) (b ∷ t) = ap₂ {C = ℕ} (λ p q. p + q) (bits-comm 8 a b) (distance-comm s t)
 
+-- ---- the way round
+
+unequal-round : (a b c : ℕ) → unequal a c ≤ unequal a b + unequal b c
+unequal-round a b c = by (eqb a b) refl
+  where
+    by : (t : Bool) → eqb a b ≡ t → unequal a c ≤ cond t 0 1 + unequal b c
+    by true e = rw (eqb-true a b e) (omega arith)
+    by false e = omega (arith, unequal-le a c)
+
+bits-round : (n x y z : ℕ) → differingBits n x z ≤ differingBits n x y + differingBits n y z
+unfolding differingBits
+bits-round zero x y z = omega arith
+bits-round (suc n) x y z = omega (arith, unequal-round (x % 2) (y % 2) (z % 2), bits-round n (x / 2) (y / 2) (z / 2))
+
+distance-round : (s t u : List ℕ) → length s ≡ length t → length t ≡ length u → distance s u ≤ distance s t + distance t u
+unfolding distance
+distance-round [] t u e f = omega arith
+distance-round (a ∷ s) [] u e f = absurd (omega arith)
+distance-round (a ∷ s) (b ∷ t) [] e f = absurd (omega arith)
+distance-round (a ∷ s) (b ∷ t) (c ∷ u) e f = omega (arith, bits-round 8 a b c, distance-round s t u (omega arith) (omega arith))
+
 -- ---- 0 exactly where both are the same
 
 unequal-self : (a : ℕ) → unequal a a ≡ 0
@@ -94,4 +115,11 @@ distance-none (a ∷ s) (b ∷ t) f g l e =
     (distance-none s t (λ i. f (suc i)) (λ i. g (suc i)) (omega arith) (omega arith))
 
 pub metric : Metric
-metric = record { same = distance-self; apart = distance-none; symmetric = distance-comm; most = distance-le; parts = distance-append }
+metric = record {
+  same = distance-self;
+  apart = distance-none;
+  symmetric = distance-comm;
+  triangle = distance-round;
+  most = distance-le;
+  parts = distance-append;
+}

@@ -1,4 +1,6 @@
 pub mod Distance
 pub mod Metric
-pub mod Flips
+pub mod Counts
+pub mod Refusals
 pub mod Counted
+pub mod Fitting

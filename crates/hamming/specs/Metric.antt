@@ -1,4 +1,4 @@
--- `distance` measures how far two lists of bytes are apart. The statement; proofs/Metric.antt shows it.
+-- `distance` is a metric on lists of bytes of one length, and adds up. The statement; proofs/Metric.antt shows it.
 use mathlib.Core.Path.{_≡_}
 use mathlib.Core.List.{List, _++_}
 use Prim.Native.Nat.{ℕ, _+_, _*_, _≤_}
@@ -12,6 +12,8 @@ pub record Metric : Type 0 where
   pub apart : (s t : List ℕ) → Bytes s → Bytes t → length s ≡ length t → distance s t ≡ 0 → s ≡ t
   -- the same in either order
   pub symmetric : (s t : List ℕ) → distance s t ≡ distance t s
+  -- no way round is shorter
+  pub triangle : (s t u : List ℕ) → length s ≡ length t → length t ≡ length u → distance s u ≤ distance s t + distance t u
   -- at most all bits
   pub most : (s t : List ℕ) → distance s t ≤ 8 * length s
   -- of lists in two parts, the sum of both

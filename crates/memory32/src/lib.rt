@@ -13,7 +13,7 @@ fn byte(x: u8) -> u32
     x as u32
 }
 
-// The word whose four bytes stand at `at`, lowest byte first.
+// The word whose four bytes stand at `at`, lowest byte first. That these are its bytes is said too, since a caller does not know the elements to be bytes.
 pub fn load(s: &[u8], at: usize) -> u32
     requires { ⌜ at + 4 ≤ length (now s) ⌝ }
     ensures { λ r. ⌜ r ≡ wordAt 4 (now (s .entry)) at ⌝ }

@@ -13,7 +13,7 @@ fn byte(x: u8) -> u64
     x as u64
 }
 
-// The word whose eight bytes stand at `at`, lowest byte first.
+// The word whose eight bytes stand at `at`, lowest byte first. That these are its bytes is said too, since a caller does not know the elements to be bytes.
 pub fn load(s: &[u8], at: usize) -> u64
     requires { ⌜ at + 8 ≤ length (now s) ⌝ }
     ensures { λ r. ⌜ r ≡ wordAt 8 (now (s .entry)) at ⌝ }

@@ -1,12 +1,17 @@
 -- A text that is stored piece by piece.
 use mathlib.Core.Path.{_≡_, refl, ap, ap₂, sym, _∙_}
-use mathlib.Core.List.{List, [], _++_}
-use Prim.Native.Nat.{ℕ, _+_}
+use mathlib.Core.List.{List, [], _∷_, _++_}
+use Prim.Native.Nat.{ℕ, _+_, _<_}
+use native.Mathlib.Numerals.{add-one}
 use native.Mathlib.Omega.{arith}
-use lib.ListN.{length, length-append}
-use lib.Seq.{sets}
+use lib.ListN.{length, getD, drop, length-append}
+use lib.Seq.{sets, drop-cons}
 use Rattle.text.specs.Pushed.{Pushed}
 use Rattle.text.proofs.Pushed.{sets-append}
+
+-- the rest of a list begins with its next element
+pub rest-begins : (t : List ℕ) (i : ℕ) → i < length t → drop i t ≡ getD t i 0 ∷ drop (i + 1) t
+rest-begins t i h = drop-cons t i 0 h ∙ ap (λ (j : ℕ). getD t i 0 ∷ drop j t) (sym (add-one i))
 
 -- of a text from place i of l₀ on, `rest` is left, from place `next` of l on
 pub record Partly (l₀ : List ℕ) (i : ℕ) (text l : List ℕ) (next : ℕ) (rest : List ℕ) : Type 0 where

@@ -64,7 +64,7 @@ returns c =
     let p = c .before .before .before in
     let a = p .before .before .before .args in (
       lines-fault (a .width) (now (a .sheet)) (p .loop .at) (p .loop .inv .4) (c .enum-told .given .0 .0)
-      (sym (c .before .before .read-command .ensures) ∙ c .enum-told .given .1),
+          (sym (c .before .before .read-command .ensures) ∙ c .enum-told .given .1),
       omega arith,
     )
 

@@ -1,18 +1,13 @@
-use mathlib.Core.Path.{_≡_, refl, ap, sym, _∙_}
-use mathlib.Core.List.{List, [], _∷_, _++_}
-use Prim.Native.Nat.{ℕ, _+_, _-_, _≤_, _<_}
-use native.Mathlib.Numerals.{add-one}
+use mathlib.Core.Path.{_≡_, refl}
+use mathlib.Core.List.{[], _∷_}
+use Prim.Native.Nat.{_+_, _-_, _≤_}
 use native.Mathlib.Omega.{arith}
 use borrow.Author.Needs.{needs}
 use denote.Ref.{now}
 use lib.ListN.{length, getD, drop, drop-of-length-le}
-use lib.Seq.{drop-cons}
-use Rattle.text.proofs.Partly.{Partly, none-yet, one-more, all-stored}
+use Rattle.text.proofs.Partly.{Partly, rest-begins, none-yet, one-more, all-stored}
 use Rattle.text.proofs.push_text.Statement.{statement}
 use Rattle.text.proofs.push_text.Tie as tie
-
-drop-next : (t : List ℕ) (i : ℕ) → i < length t → drop i t ≡ (getD t i 0 ∷ []) ++ drop (i + 1) t
-drop-next t i h = drop-cons t i 0 h ∙ ap (λ (j : ℕ). getD t i 0 ∷ drop j t) (sym (add-one i))
 
 abbrev Inv-loop : tie.InvT-loop
 Inv-loop out₀ at text next₀ i₀ out next i =
@@ -48,7 +43,7 @@ loop-again c =
       omega arith,
       omega (arith, q .behind),
       search needs,
-      one-more (drop i t) (getD t i 0 ∷ []) (drop (i + 1) t) (p .loop .inv .4) (drop-next t i (omega arith)) q,
+      one-more (drop i t) (getD t i 0 ∷ []) (drop (i + 1) t) (p .loop .inv .4) (rest-begins t i (omega arith)) q,
     )
 
 same-length : tie.Need-same-length Inv-loop μ-loop
