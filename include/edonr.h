@@ -531,9 +531,9 @@ uint64_t edonr_first_false_record(uint32_t width, const uint8_t *vectors,
 
 /* ============================ G. Flipped bits ============================ */
 
-#define EDONR_REFUSED_PAIRS 19 /* the length of pairs is no multiple of 64, or too long */
 #define EDONR_PAIR_BYTES 64    /* two digests of 256 bits */
 #define EDONR_PAIRS_MAX 1024   /* pairs of one call, at most: 65,536 bytes */
+#define EDONR_REFUSED_PAIRS 19 /* the pairs' bytes are no multiple of 64, or over 65,536 */
 
 /*
  * Counts the bits in which two digests differ, for several pairs of them. If the two are

@@ -97,7 +97,7 @@ static void compare_lengths(void)
         check_lists(len);
 }
 
-/* Every number of records that is accepted, and as many that are not. */
+/* Every number of records that is accepted, and on to twice the most. */
 static void compare_counts(void)
 {
     check_group("0 to %d records", 2 * MOST_PAIRS);

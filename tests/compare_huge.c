@@ -205,7 +205,7 @@ static void compare_flipped_bits(void)
     check_out("flipped bits", COUNT, got, want);
 }
 
-/* The output has room for as many counts, which take two bytes each. */
+/* The output has room for over 2^32 counts too, which take two bytes each. */
 static void compare_outputs(void)
 {
     check_group("outputs of over 2^32 bytes or counts");
