@@ -8,12 +8,12 @@ use lib.Dec.{eqb}
 abbrev pub unequal : ℕ → ℕ → ℕ
 unequal a b = cond (eqb a b) 0 1
 
--- of the lowest n bits of x and y, those that differ: the lowest bit, then the bits above it
+-- how many of the lowest n bits of x and y differ: the lowest bit, then the bits above it
 unfoldable pub differingBits : ℕ → ℕ → ℕ → ℕ
 differingBits zero x y = 0
 differingBits (suc n) x y = unequal (x % 2) (y % 2) + differingBits n (x / 2) (y / 2)
 
--- of two lists of bytes, each eight bits: those of the first bytes, then of the bytes behind them, as far as both lists go
+-- how many bits of two lists of bytes differ, eight a byte: those of the first bytes, then of the bytes behind them, as far as both lists go
 unfoldable pub distance : List ℕ → List ℕ → ℕ
 distance [] t = 0
 distance (a ∷ s) [] = 0

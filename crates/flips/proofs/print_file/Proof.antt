@@ -1,16 +1,11 @@
-use mathlib.Core.Path.{_≡_, ap, sym, _∙_}
-use native.Mathlib.Omega.{arith}
+use mathlib.Core.Path.{sym}
 use borrow.Author.Needs.{needs}
-use lib.ListN.{length, length-replicate}
-use lib.Seq.{length-take-le, length-sets}
+use lib.Seq.{length-take-le}
 use Rattle.flips.proofs.print_file.Statement.{statement}
 use Rattle.flips.proofs.print_file.Tie as tie
 
 slice-aggregate-write-all : tie.Need-slice-aggregate-write-all
-slice-aggregate-write-all c =
-    let l = c .before .before .report in
-    let e : length (l .last .1 .0) ≡ 43035 = ap length (l .ensures .0) ∙ simp (length-sets, length-replicate) in
-    sym (length-take-le (l .result) (l .last .1 .0) (omega (arith, l .ensures .1 .1)))
+slice-aggregate-write-all c = let l = c .before .before .report in sym (length-take-le (l .result) (l .last .1 .0) (search needs))
 
 pub print-file-spec : {M : Type 1} → statement M
 print-file-spec =
