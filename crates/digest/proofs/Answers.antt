@@ -1,6 +1,6 @@
 -- What a success says: no refusal's condition held.
 use mathlib.Core.Path.{_≡_}
-use mathlib.Core.Bool.{true}
+use mathlib.Core.Bool.{Bool, true, false, cond}
 use Prim.Native.Nat.{ℕ, _+_, _*_, _/_, _^_, _≤_, _<_}
 use native.Mathlib.Omega.{arith}
 use borrow.Author.Tests.{eqb-true, leb-true}
@@ -10,12 +10,20 @@ use Rattle.answer.specs.Refuse.{isDone}
 use Rattle.answer.proofs.Tests.{either, both-true}
 use Rattle.answer.proofs.Refuse.{unless-done}
 use Rattle.digest.specs.Refusals.{limit, isSize, inForm, feeding, delivering, finishing, digesting}
-use Rattle.digest.specs.Kind.{Kind, knownSize, narrowKind, wideKind}
+use Rattle.digest.specs.Kind.{Kind, knownSize, narrowKind, wideKind, kindFor}
 
 -- a size is at most the larger of the two
 pub size-bound : (small large n most : ℕ) → small ≤ most → large ≤ most → isSize small large n ≡ true → n ≤ most
 size-bound small large n most p q e =
     either (eqb n small) (eqb n large) (n ≤ most) e (λ h. rw (eqb-true n small h) p) (λ h. rw (eqb-true n large h) q)
+
+-- the four sizes are at most 512
+pub known-bound : (n : ℕ) → knownSize (kindFor n) n ≡ true → n ≤ 512
+known-bound n = by (knownSize wideKind n)
+  where
+    by : (b : Bool) → knownSize (cond b wideKind narrowKind) n ≡ true → n ≤ 512
+    by true = size-bound 384 512 n 512 (lit≤ tt) (lit≤ tt)
+    by false = size-bound 224 256 n 512 (lit≤ tt) (lit≤ tt)
 
 pub form-total : (small large n total : ℕ) → inForm small large n total ≡ true → total ≤ limit
 form-total small large n total e = leb-true _ _ (both-true (isSize small large n) (leb total limit) e .1)

@@ -13,3 +13,4 @@ pub mod Cases
 pub mod Step
 pub mod OneCall
 pub mod Fitting
+pub mod Length

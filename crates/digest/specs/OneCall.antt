@@ -1,6 +1,6 @@
 -- The digest of a whole message (001, Table 2.6), and the call that makes it, for the four sizes.
 use mathlib.Core.Path.{_≡_}
-use mathlib.Core.Bool.{_||_}
+use mathlib.Core.Bool.{true, _||_}
 use mathlib.Core.List.{List, _++_}
 use Prim.Native.Nat.{ℕ, _/_}
 use lib.ListN.{length, drop}
@@ -33,3 +33,7 @@ oneCallOut n m out = digestOut (kindFor n) n m out
 -- the sizes that the one call accepts
 pub record FourSizes : Type 0 where
   pub sizes : (n : ℕ) → knownSize (kindFor n) n ≡ (knownSize narrowKind n || knownSize wideKind n)
+
+-- a digest of size n has n/8 bytes
+abbrev pub DigestLength : Type 0
+DigestLength = (n : ℕ) (m : List ℕ) → knownSize (kindFor n) n ≡ true → length (digestOf (kindFor n) n m) ≡ n / 8

@@ -4,7 +4,8 @@ use mathlib.Core.Path.{_≡_}
 use mathlib.Core.List.{List, [], _∷_, _++_}
 use Prim.Native.Nat.{ℕ, _+_, _%_, _≤_, _<_}
 use lib.ListN.{length}
-use Rattle.hamming.specs.Counts.{flippedBits, countsFrom, flippedCounts, total}
+use Rattle.memory.specs.Lists.{total}
+use Rattle.hamming.specs.Counts.{flippedBits, countsFrom, flippedCounts}
 use Rattle.distance_report.specs.Report.{line, lines, totalLine, report}
 
 -- total 0, and an end of line

@@ -4,7 +4,8 @@ ghost use mathlib.Core.List.{_++_};
 ghost use Prim.Native.Nat.{_+_, _≤_};
 ghost use lib.ListN.{length, drop};
 ghost use Rattle.hamming.specs.Distance.{distance};
-ghost use Rattle.hamming.specs.Counts.{bytesAt, pairCount, flippedCounts, total, wholePairs, flippedAnswer, countsAfter};
+ghost use Rattle.memory.specs.Lists.{bytesAt, total};
+ghost use Rattle.hamming.specs.Counts.{pairCount, flippedCounts, wholePairs, flippedAnswer, countsAfter};
 use answer::Answer;
 use answer::Refusal;
 

@@ -12,6 +12,7 @@ ghost use Rattle.operands.specs.Operation.{answerFor, outputAfter};
 ghost use Rattle.digest.specs.Kind.{narrowKind, wideKind};
 ghost use Rattle.digest.specs.State.{openAnswer, opened, finishAnswer, finishOut};
 ghost use Rattle.digest.specs.OneCall.{oneCallAnswer, oneCallOut};
+ghost use Rattle.batch.specs.Batch.{batchAnswer, batchOut};
 ghost use Rattle.invertible.specs.RoundTrip.{Forward, Backward};
 ghost use Rattle.sheet.specs.Run.{runAnswer, runBytes};
 ghost use Rattle.slice.specs.Slice.{sliceAnswer, sliceBytes};
@@ -61,6 +62,15 @@ pub extern "C" fn edonr_digest(size: u32, message: &[u8], out: &mut [u8]) -> u64
     ensures { λ _. ⌜ now (out .exit) ≡ oneCallOut size (now (message .entry)) (now (out .entry)) ⌝ }
 {
     answer::number(one_call::digest(size, message, out))
+}
+
+// The digests of `size` bits of all messages, joined in `messages` and with the lengths in `lengths`, into the first bytes of `out`, `size` / 8 for each.
+#[no_mangle]
+pub extern "C" fn edonr_digests(size: u32, messages: &[u8], lengths: &[u32], out: &mut [u8]) -> u64
+    ensures { λ r. ⌜ r ≡ numberOf (batchAnswer size (length (now (messages .entry))) (now (lengths .entry)) (length (now (out .entry)))) ⌝ }
+    ensures { λ _. ⌜ now (out .exit) ≡ batchOut size (now (messages .entry)) (now (lengths .entry)) (now (out .entry)) ⌝ }
+{
+    answer::number(batch_call::digests(size, messages, lengths, out))
 }
 
 // A forward run of the sheet over the lent vectors.

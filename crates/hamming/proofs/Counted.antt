@@ -14,7 +14,8 @@ use Rattle.answer.specs.declared.Answer.the-variants.{Done}
 use Rattle.answer.specs.declared.Refusal.the-variants.{Pairs, Output}
 use Rattle.answer.specs.Refuse.{isDone, outcome}
 use Rattle.answer.proofs.Refuse.{unless-done}
-use Rattle.hamming.specs.Counts.{flippedBits, pairCount, flippedCounts, total, wholePairs, flippedAnswer, countsAfter}
+use Rattle.memory.specs.Lists.{total}
+use Rattle.hamming.specs.Counts.{flippedBits, pairCount, flippedCounts, wholePairs, flippedAnswer, countsAfter}
 use Rattle.hamming.specs.Counted.{SuccessCounts}
 use Rattle.hamming.proofs.Counts.{counts-length, counts-get, flipped-le, total-le}
 use Rattle.hamming.proofs.Tests.{whole, accepted}

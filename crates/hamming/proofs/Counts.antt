@@ -7,7 +7,8 @@ use native.Mathlib.Omega.{arith}
 use lib.ListN.{length, getD, set, take, drop, length-set}
 use lib.Seq.{sets}
 use Rattle.memory.proofs.Lists.{front}
-use Rattle.hamming.specs.Counts.{firstDigest, secondDigest, flippedBits, countsFrom, pairCount, flippedCounts, total}
+use Rattle.memory.specs.Lists.{total}
+use Rattle.hamming.specs.Counts.{firstDigest, secondDigest, flippedBits, countsFrom, pairCount, flippedCounts}
 use Rattle.hamming.proofs.Metric.{distance-le}
 
 pub counts-length : (s : List ℕ) (k n : ℕ) → length (countsFrom s k n) ≡ n

@@ -10,7 +10,7 @@ use lib.ListN.{length, take, drop, length-drop}
 use lib.Seq.{take-add, drop-drop, length-take-le}
 use Rattle.memory.specs.Bytes.{bytes}
 use Rattle.hamming.specs.Distance.{differingBits, distance}
-use Rattle.hamming.specs.Counts.{bytesAt}
+use Rattle.memory.specs.Lists.{bytesAt}
 use Rattle.hamming.proofs.Bits.{ones-of-xor}
 
 -- ---- two parts

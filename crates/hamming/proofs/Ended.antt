@@ -11,7 +11,8 @@ use Rattle.answer.specs.declared.Answer.the-variants.{Done, Refused}
 use Rattle.answer.specs.declared.Refusal.the-variants.{Pairs, Output}
 use Rattle.answer.specs.Refuse.{outcome}
 use Rattle.answer.proofs.Tests.{goes-on, stops}
-use Rattle.hamming.specs.Counts.{pairCount, flippedCounts, total, wholePairs, flippedAnswer, countsAfter}
+use Rattle.memory.specs.Lists.{total}
+use Rattle.hamming.specs.Counts.{pairCount, flippedCounts, wholePairs, flippedAnswer, countsAfter}
 use Rattle.hamming.proofs.Tests.{whole, not-whole, no-room, accepted}
 
 module _ (s l : List ℕ) where

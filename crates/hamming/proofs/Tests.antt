@@ -9,7 +9,8 @@ use lib.ListN.{length}
 use Rattle.answer.specs.declared.Answer.the-variants.{Done, Refused}
 use Rattle.answer.specs.declared.Refusal.the-variants.{Pairs, Output}
 use Rattle.answer.proofs.Tests.{both-true}
-use Rattle.hamming.specs.Counts.{pairCount, flippedCounts, total, wholePairs, flippedAnswer}
+use Rattle.memory.specs.Lists.{total}
+use Rattle.hamming.specs.Counts.{pairCount, flippedCounts, wholePairs, flippedAnswer}
 
 pub whole : (m : ℕ) → wholePairs m ≡ true → (m % 64 ≡ 0) × (m ≤ 65536)
 whole m e =

@@ -9,7 +9,7 @@ use lib.ListN.{length}
 use Rattle.memory.specs.Bytes.{bytes}
 use Rattle.memory.proofs.Bytes.{length-bytes}
 use Rattle.hamming.specs.Distance.{distance}
-use Rattle.hamming.specs.Counts.{bytesAt}
+use Rattle.memory.specs.Lists.{bytesAt}
 use Rattle.hamming.proofs.Distance.{ones-of-words, distance-parts}
 use Rattle.hamming.proofs.Metric.{distance-le}
 

@@ -6,7 +6,8 @@ use Prim.Native.Nat.{ℕ, _≤_, _<_}
 use lib.ListN.{length, getD, take, drop}
 use Rattle.answer.specs.declared.Answer.the-variants.{Done}
 use Rattle.answer.specs.Refuse.{isDone}
-use Rattle.hamming.specs.Counts.{flippedBits, pairCount, flippedCounts, total, flippedAnswer, countsAfter}
+use Rattle.memory.specs.Lists.{total}
+use Rattle.hamming.specs.Counts.{flippedBits, pairCount, flippedCounts, flippedAnswer, countsAfter}
 
 -- Count k is the number of bits in which the digests of record k differ, 0 to 256; the counts behind the records' are in their places; and the answer is the
 -- sum of the counts that were written, at most 262,144

@@ -1,18 +1,15 @@
 -- Document 02, Paper 14: records of two digests, the bits in which the two differ, and their sum. A record is here such a pair, and not that of Paper 10.
 use mathlib.Core.Bool.{Bool, _&&_}
-use mathlib.Core.List.{List, [], _∷_, _++_, sum}
+use mathlib.Core.List.{List, [], _∷_, _++_}
 use Prim.Native.Nat.{ℕ, zero, suc, _+_, _*_, _/_, _%_}
 use lib.Dec.{eqb, leb}
-use lib.ListN.{length, take, drop}
+use lib.ListN.{length, drop}
 use Rattle.answer.specs.declared.Answer.{Answer}
 use Rattle.answer.specs.declared.Answer.the-variants.{Done}
 use Rattle.answer.specs.declared.Refusal.the-variants.{Pairs, Output}
 use Rattle.answer.specs.Refuse.{unless, outcome}
+use Rattle.memory.specs.Lists.{bytesAt, total}
 use Rattle.hamming.specs.Distance.{distance}
-
--- the n bytes of s from place i on
-abbrev pub bytesAt : ℕ → List ℕ → ℕ → List ℕ
-bytesAt n s i = take n (drop i s)
 
 -- the digests of record k of s, k from 0 on: 32 bytes each, one behind the other
 abbrev pub firstDigest : List ℕ → ℕ → List ℕ
@@ -37,9 +34,6 @@ pairCount m = m / 64
 -- one count a record
 abbrev pub flippedCounts : List ℕ → List ℕ
 flippedCounts s = countsFrom s 0 (pairCount (length s))
-
-abbrev pub total : List ℕ → ℕ
-total l = sum _+_ 0 l
 
 -- whether records may have m bytes: a multiple of 64, and not over 65,536
 abbrev pub wholePairs : ℕ → Bool

@@ -7,7 +7,8 @@ use lib.ListN.{length}
 use Rattle.answer.specs.declared.Answer.the-variants.{Done, Refused}
 use Rattle.answer.specs.declared.Refusal.the-variants.{Pairs, Output}
 use Rattle.answer.specs.Refuse.{isDone}
-use Rattle.hamming.specs.Counts.{pairCount, flippedCounts, total, flippedAnswer, countsAfter}
+use Rattle.memory.specs.Lists.{total}
+use Rattle.hamming.specs.Counts.{pairCount, flippedCounts, flippedAnswer, countsAfter}
 
 -- It refuses with 19 if the records' length is no multiple of 64, and if it is over 65,536; else with 4 if the list has fewer counts than there are records;
 -- and else not. So no records are fine, and are answered with 0. A refusal leaves the list as it was

@@ -4,3 +4,4 @@ pub mod Bytes
 pub mod Parts
 pub mod Copy
 pub mod Same
+pub mod Totals

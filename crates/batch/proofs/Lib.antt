@@ -1,0 +1,11 @@
+pub mod Messages
+pub mod Tests
+pub mod Refusals
+pub mod Digests
+pub mod Written
+pub mod Placed
+pub mod Calls
+pub mod Fitting
+pub mod Sums
+pub mod Progress
+pub mod Ended
