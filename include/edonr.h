@@ -19,8 +19,8 @@
  *
  * What a caller must keep
  *   The buffers of one call do not overlap, and each has the length given with it: its
- *   number of bytes, or, for a list of larger elements (G), its number of elements. One of
- *   length 0 is neither read nor written, and its pointer may be NULL. A pointer to a
+ *   number of bytes, or, for a list of larger elements (B, G), its number of elements. One
+ *   of length 0 is neither read nor written, and its pointer may be NULL. A pointer to a
  *   struct (D, F) points to one of its kind. No call can test this, and nothing else is
  *   asked of the caller: every other argument is checked.
  *
@@ -119,6 +119,10 @@ uint64_t edonr_right_division(uint32_t width, const uint8_t *b, size_t b_len,
 #define EDONR_REFUSED_SIZE 1    /* the digest size is none of 224, 256, 384 and 512 */
 #define EDONR_REFUSED_MESSAGE 3 /* the message is over 2^61 - 1 bytes */
 
+#define EDONR_MESSAGES_MAX 1024        /* messages of one call, at most */
+#define EDONR_REFUSED_MESSAGE_COUNT 12 /* there are more than 1,024 messages */
+#define EDONR_REFUSED_JOINED_LENGTH 13 /* the lengths do not sum to the joined length */
+
 /*
  * The EDON-R digest of a message of whole bytes, in one call.
  *
@@ -133,6 +137,34 @@ uint64_t edonr_right_division(uint32_t width, const uint8_t *b, size_t b_len,
  */
 uint64_t edonr_digest(uint32_t size, const uint8_t *message, size_t message_len,
                       uint8_t *out, size_t out_len);
+
+/*
+ * The EDON-R digests of several messages of whole bytes, in one call. What it writes is
+ * what a call of edonr_digest for each message writes.
+ *
+ * The messages are lent joined, one behind the other with nothing in between. Message k, k
+ * from 0, is the lengths[k] bytes behind the messages before it. It may be empty: it then
+ * has a digest too.
+ *
+ * Reads    messages, messages_len bytes, and lengths, a list of 32-bit numbers: one for
+ *          each message, at most EDONR_MESSAGES_MAX; none is fine. lengths_len is the
+ *          list's number of elements, not of bytes. size is each digest's length n in bits,
+ *          as for edonr_digest.
+ * Writes   on success the first lengths_len * n/8 bytes of out: digest k, which is the
+ *          edonr_digest of message k, stands at byte k * n/8. Bytes behind the last digest
+ *          stay.
+ * Returns  lengths_len * n/8, the number of bytes written, 0 to 65,536.
+ * Refuses  in this order:
+ *          1 EDONR_REFUSED_SIZE           size is none of 224, 256, 384 and 512;
+ *         12 EDONR_REFUSED_MESSAGE_COUNT  lengths_len is over EDONR_MESSAGES_MAX, 1,024;
+ *         13 EDONR_REFUSED_JOINED_LENGTH  the lengths do not sum to messages_len; the sum
+ *                                         is a whole number, not cut off at 2^32;
+ *          4 EDONR_REFUSED_OUTPUT         out_len is under lengths_len * n/8.
+ *          EDONR_REFUSED_MESSAGE cannot occur, since no message has 2^32 bytes.
+ */
+uint64_t edonr_digests(uint32_t size, const uint8_t *messages, size_t messages_len,
+                       const uint32_t *lengths, size_t lengths_len, uint8_t *out,
+                       size_t out_len);
 
 /* ============================ C. Sheets ============================ */
 

@@ -7,6 +7,7 @@
 #include "edonr.h"
 #include "harness/check.h"
 #include "harness/digest_call.h"
+#include "harness/digests_call.h"
 #include "harness/flips_call.h"
 #include "harness/hash_call.h"
 #include "harness/inverse_sheet_call.h"
@@ -58,6 +59,22 @@ static void compare_digests(void)
     for (unsigned n = 0; n < 6 * 4; n++) {
         size_t message_len = buffer_len(n / 6, 0, 100);
         check_digest_call(sizes[n % 6], bytes, message_len, buffer_len(n / 6, 1, 64));
+    }
+}
+
+/* Messages with no bytes have no pointer, and so has a list of none of them. */
+static void compare_digest_lists(void)
+{
+    static const uint32_t lists[2][3] = {{40, 0, 60}, {0, 0, 0}};
+    check_group("digests of several messages");
+    for (unsigned n = 0; n < 6 * 8 * 2; n++) {
+        struct digests call = {.size = sizes[n % 6],
+                               .messages = bytes,
+                               .messages_len = buffer_len(n / 6, 0, 100),
+                               .lengths = lists[n / 48],
+                               .lengths_len = buffer_len(n / 6, 1, 3),
+                               .out_len = buffer_len(n / 6, 2, 3 * 64)};
+        check_digests_call(&call, NULL);
     }
 }
 
@@ -212,6 +229,25 @@ static void check_points(void)
     check(edonr_wide_finish(&wide, NULL, 0) == REFUSED(4), "wide, no output");
 }
 
+static void check_digests_points(void)
+{
+    static const uint32_t lengths[2] = {0, 0};
+    uint8_t out[128] = {7};
+    check_group("answers of digests of several messages as numbers");
+    check(edonr_digests(512, NULL, 0, NULL, 0, out, 128) == 0, "neither messages nor list");
+    check(edonr_digests(256, NULL, 0, NULL, 0, NULL, 0) == 0, "nothing at all");
+    check(out[0] == 7, "an output without messages is changed");
+    check(edonr_digests(512, NULL, 0, lengths, 2, out, 128) == 128, "two empty messages");
+    check(edonr_digests(512, NULL, 0, lengths, 2, NULL, 0) == REFUSED(4),
+          "two empty messages and no output");
+    check(edonr_digests(384, bytes, 1, NULL, 0, out, 128) == REFUSED(13),
+          "a byte and no list");
+    check(edonr_digests(224, bytes, 1, NULL, 0, NULL, 0) == REFUSED(13),
+          "a byte and neither");
+    check(edonr_digests(225, NULL, 0, NULL, 0, NULL, 0) == REFUSED(1),
+          "nothing, at no size");
+}
+
 static void check_sheet_points(void)
 {
     uint8_t vectors[VECTORS_32] = {0}, out[64];
@@ -290,6 +326,7 @@ int main(int argc, char **argv)
     lent_empty_is_null(true);
     compare_products();
     compare_digests();
+    compare_digest_lists();
     compare_runs();
     compare_slices();
     compare_inverse_sheets();
@@ -300,6 +337,7 @@ int main(int argc, char **argv)
     for (enum kind kind = NARROW; kind < KINDS; kind++)
         compare_pieces(kind);
     check_points();
+    check_digests_points();
     check_sheet_points();
     check_shuffle_points();
     check_replay_points();

@@ -21,6 +21,8 @@ enum refusal {
     CUT_COMMAND = 9,
     BAD_PLACE = 10,
     SAME_PLACE = 11,
+    TOO_MANY_MESSAGES = 12,
+    BAD_JOINED_LENGTH = 13,
     BAD_START = 14,
     BAD_RECORDS = 16,
     TOO_MANY_RECORDS = 17,

@@ -7,6 +7,7 @@
 
 #include "edonr.h"
 #include "../reference/digest.h"
+#include "../reference/digests.h"
 #include "../reference/division.h"
 #include "../reference/flips.h"
 #include "../reference/product.h"
@@ -43,6 +44,14 @@ uint64_t edonr_digest(uint32_t size, const uint8_t *message, size_t message_len,
                       uint8_t *out, size_t out_len)
 {
     return reference_digest(size, message, message_len, out, out_len);
+}
+
+uint64_t edonr_digests(uint32_t size, const uint8_t *messages, size_t messages_len,
+                       const uint32_t *lengths, size_t lengths_len, uint8_t *out,
+                       size_t out_len)
+{
+    return reference_digests(size, messages, messages_len, lengths, lengths_len, out,
+                             out_len);
 }
 
 uint64_t edonr_run_forward(uint32_t width, uint8_t *vectors, size_t vectors_len,
