@@ -1,12 +1,14 @@
 /*
  * Messages past 2^29 and 2^32 bytes against the reference, in one call and in pieces,
- * records of more than 2^32 bytes, and outputs of more than 2^32 bytes or counts. At 2^29
- * bytes the length in bits passes 32 bits, at 2^32 the length in bytes does.
+ * joined messages and records of more than 2^32 bytes, a list of more than 2^32 lengths,
+ * and outputs of more than 2^32 bytes or counts. At 2^29 bytes the length in bits passes 32
+ * bits, at 2^32 the length in bytes does.
  *
  * The message is a megabyte of random bytes that is mapped again and again, so it takes
  * no more memory than that. The period is no power of two, and so a place in the message
  * that is cut off at 32 bits has other bytes. The reference hashes the message once a
- * size, and is finished at each mark. The records are the front of the message.
+ * size, and is finished at each mark. Joined messages and records are the front of the
+ * message.
  */
 #define _DEFAULT_SOURCE
 
@@ -27,6 +29,7 @@
 #include "harness/sheet_maker.h"
 #include "harness/shuffle_call.h"
 #include "reference/digest.h"
+#include "reference/digests.h"
 #include "reference/division.h"
 #include "reference/flips.h"
 #include "reference/hash.h"
@@ -159,6 +162,15 @@ static void compare_digest(uint32_t size)
     check_out("digest", size, got, want);
 }
 
+static void compare_digests(uint32_t size)
+{
+    static const uint32_t lengths[] = {100, 0, 200};
+    size_t len = prepare_out();
+    uint64_t want = reference_digests(size, message, 300, lengths, 3, want_out, len);
+    uint64_t got = edonr_digests(size, message, 300, lengths, 3, huge_out, len);
+    check_out("digests", size, got, want);
+}
+
 static void compare_finish(enum kind kind, uint32_t size)
 {
     union hash hash;
@@ -225,8 +237,45 @@ static void compare_outputs(void)
     compare_flipped_bits();
     for (unsigned i = 0; i < 4; i++) {
         compare_digest(kind_sizes[i / 2][i % 2]);
+        compare_digests(kind_sizes[i / 2][i % 2]);
         compare_finish((enum kind)(i / 2), kind_sizes[i / 2][i % 2]);
     }
+}
+
+/* ---------------- joined messages ---------------- */
+
+/* Two messages of over 2^31 bytes, so that those behind them start past 2^32. */
+static void compare_joined(void)
+{
+    enum { COUNT = 5 };
+    uint32_t lengths[COUNT] = {(1u << 31) + 300, (1u << 31) + 5, 1000, 0, 129};
+    size_t len = prepare_out(), joined = 0;
+    lengths[0] += (uint32_t)random_below(300);
+    for (unsigned k = 0; k < COUNT; k++)
+        joined += lengths[k];
+    check_group("joined messages of %zu bytes", joined);
+    uint64_t want = reference_digests(512, message, joined, lengths, COUNT, want_out, len);
+    uint64_t got = edonr_digests(512, message, joined, lengths, COUNT, huge_out, len);
+    check_out("digests", 512, got, want);
+}
+
+/* A list of just over 2^32 lengths, all of them 0. It is never touched: cut off at 32 bits
+   its length would be one that is accepted. */
+static void compare_long_list(void)
+{
+    size_t over = (size_t)random_below(EDONR_MESSAGES_MAX), count = (size_t)AT_32 + over;
+    check_group("a list of %zu lengths", count);
+    void *list = mmap(NULL, count * sizeof(uint32_t), PROT_READ,
+                      MAP_PRIVATE | MAP_ANONYMOUS | MAP_NORESERVE, -1, 0);
+    stop_unless(list != MAP_FAILED);
+    for (unsigned i = 0; i < 4; i++) {
+        uint32_t size = kind_sizes[i / 2][i % 2];
+        size_t len = prepare_out();
+        uint64_t want = reference_digests(size, message, 0, list, count, want_out, len);
+        uint64_t got = edonr_digests(size, message, 0, list, count, huge_out, len);
+        check_out("digests", size, got, want);
+    }
+    munmap(list, count * sizeof(uint32_t));
 }
 
 /* ---------------- records ---------------- */
@@ -289,6 +338,8 @@ int main(int argc, char **argv)
     message = map_periods((size_t)marks[MARKS - 1], PROT_READ);
     out = lent_area(MOST_OUT, 1);
     compare_outputs();
+    compare_long_list();
+    compare_joined();
     compare_records();
     compare_size(WIDE, 512, 0);
     compare_size(WIDE, 384, MARKS - 2);

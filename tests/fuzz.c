@@ -1,5 +1,5 @@
 /*
- * fuzz [rounds]: all twenty calls with random arguments, sound, nearly sound and
+ * fuzz [rounds]: all twenty-one calls with random arguments, sound, nearly sound and
  * nonsense, each compared with the reference. The number of rounds is fixed, so that two
  * runs from one seed are the same.
  */
@@ -10,6 +10,7 @@
 
 #include "harness/check.h"
 #include "harness/digest_call.h"
+#include "harness/digests_call.h"
 #include "harness/flips_call.h"
 #include "harness/hash_call.h"
 #include "harness/hash_maker.h"
@@ -32,9 +33,10 @@ enum {
     MOST_MESSAGE = 1 << 16,
     MOST_OUT = 200,
     MOST_FUZZED = 16, /* records */
-    CALLS = 20
+    CALLS = 21
 };
 
+static const uint32_t sizes[4] = {224, 256, 384, 512};
 static uint8_t bytes[MOST_MESSAGE];
 
 /* ---------------- arguments ---------------- */
@@ -94,7 +96,6 @@ static bool fuzz_operation(unsigned operation)
 /* A length is claimed only where the call refuses it. */
 static bool fuzz_digest(void)
 {
-    static const uint32_t sizes[4] = {224, 256, 384, 512};
     uint32_t right = sizes[random_below(4)], size = (uint32_t)fuzz_number(right);
     size_t len = fuzz_message_len(), out_len = fuzz_out_len(right / 8, MOST_OUT);
     uint64_t claim = fuzz_claim();
@@ -104,6 +105,41 @@ static bool fuzz_digest(void)
     if (random_below(8) == 0 && (refused || claim > MOST_BYTES_FED))
         len = (size_t)claim;
     return is_refusal(check_digest_call(size, bytes, len, out_len));
+}
+
+/* The lengths of so many messages, all of whose bytes are lent here. Returns their sum. */
+static size_t fuzz_lengths(uint32_t *lengths, size_t count)
+{
+    size_t sum = 0;
+    for (size_t k = 0; k < count; k++) {
+        size_t len = count <= MOST_FUZZED ? fuzz_message_len() : random_below(20);
+        lengths[k] = (uint32_t)(len <= sizeof bytes - sum ? len : 0);
+        sum += lengths[k];
+    }
+    return sum;
+}
+
+/* Mostly a few messages, now and then around the most of them. Of a message's length, the
+   list's and the joined length one at most is made another. So a joined length that is not
+   lent here is no sum of lengths: it is refused, and can be claimed only. */
+static bool fuzz_digests(void)
+{
+    static uint32_t lengths[DIGESTS_CALL_LENGTHS];
+    uint32_t right = sizes[random_below(4)], size = (uint32_t)fuzz_number(right);
+    size_t few = (size_t)random_below(random_below(16) == 0 ? MOST_FUZZED : 4);
+    size_t count = random_below(512) == 0 ? MOST_MESSAGES + 1 - few : few;
+    size_t sum = fuzz_lengths(lengths, count), len = count * (right / 8);
+    size_t out_len = fuzz_out_len(len, len + MOST_OUT);
+    struct digests call = {size, bytes, sum, lengths, count, out_len};
+    random_pattern(bytes, sum);
+    switch (random_below(4)) {
+    case 0: call.messages_len = (size_t)fuzz_number(sum); break;
+    case 1: call.lengths_len = (size_t)fuzz_number(count); break;
+    case 2: lengths[0] = (uint32_t)fuzz_number(lengths[0]); break;
+    }
+    if (call.messages_len > sizeof bytes && call.messages_len <= DIGESTS_CALL_MESSAGES)
+        call.messages_len += (size_t)1 << 32;
+    return is_refusal(check_digests_call(&call, NULL));
 }
 
 /* Sound, damaged, or bytes that were never a sheet. */
@@ -312,7 +348,8 @@ static bool fuzz_call(unsigned call)
     case 16: return fuzz_shuffle(FORWARD);
     case 17: return fuzz_shuffle(BACKWARD);
     case 18: return fuzz_replay();
-    default: return fuzz_flips();
+    case 19: return fuzz_flips();
+    default: return fuzz_digests();
     }
 }
 
@@ -324,13 +361,14 @@ int main(int argc, char **argv)
         "narrow feeding", "wide feeding",  "narrow finish",  "wide finish",
         "forward step",   "backward step", "inverse sheet",  "slice",
         "shuffle",        "unshuffle",     "replay",         "flipped bits",
+        "digests",
     };
     unsigned long calls[CALLS] = {0}, refused[CALLS] = {0};
     int argument = check_program("fuzz", argc, argv);
     unsigned long rounds =
         argument < argc ? strtoul(argv[argument], NULL, 10) : DEFAULT_ROUNDS;
     reference_init();
-    check_group("twenty calls with random arguments");
+    check_group("twenty-one calls with random arguments");
     for (unsigned long round = 0; round < rounds; round++) {
         unsigned call = (unsigned)random_below(CALLS);
         calls[call]++;
