@@ -2,8 +2,8 @@
  * bench [stage ...]: archive against reference, as ratios measured in one run. Stages are
  * A (product and divisions), B (digest), C (sheets), E (blocks) and F (records), as the
  * header's parts; without one, all are run. A ratio under 1 means that the archive is the
- * faster one. Where an earlier archive is linked in (make bench BEFORE=..), digests have a
- * ratio to that one too.
+ * faster one. Where an earlier archive is linked in (make bench BEFORE=..), the digests of
+ * one message have a ratio to that one too.
  *
  * The reference divides with whole inverted squares, so that its divisions are slow by
  * design: the measure for a division is its ratio to the archive's own product, and that
@@ -29,6 +29,7 @@ static const struct {
 } stages[] = {
     {'A', bench_product},
     {'B', bench_digest},
+    {'B', bench_digests},
     {'C', bench_sheets},
     {'C', bench_slices},
     {'C', bench_inverse_sheets},

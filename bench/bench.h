@@ -20,6 +20,7 @@ void bench_measure(struct work *works, size_t count);
 /* The stages, by parts of the header; each prints its own table. */
 void bench_product(void);
 void bench_digest(void);
+void bench_digests(void);
 void bench_sheets(void);
 void bench_slices(void);
 void bench_inverse_sheets(void);

@@ -1,0 +1,97 @@
+#include <stdint.h>
+#include <stdio.h>
+#include <stdlib.h>
+#include <string.h>
+
+#include "../tests/harness/rng.h"
+#include "../tests/reference/digest.h"
+#include "../tests/reference/digests.h"
+#include "bench.h"
+#include "edonr.h"
+
+enum { MESSAGES = 1000, MESSAGE_BYTES = 16, WAYS = 4 };
+
+typedef uint64_t digest_call(uint32_t size, const uint8_t *message, size_t message_len,
+                             uint8_t *out, size_t out_len);
+typedef uint64_t digests_call(uint32_t size, const uint8_t *messages, size_t messages_len,
+                              const uint32_t *lengths, size_t lengths_len, uint8_t *out,
+                              size_t out_len);
+
+/* The messages in one call or in a call each; the call that is not made is null. */
+struct way {
+    digests_call *all;
+    digest_call *each;
+    uint32_t size;
+};
+
+static uint8_t messages[MESSAGES * MESSAGE_BYTES];
+static uint32_t lengths[MESSAGES];
+static uint8_t out[MESSAGES * 64];
+
+static void run_each(const struct way *way)
+{
+    size_t digest_len = way->size / 8;
+    for (size_t k = 0; k < MESSAGES; k++)
+        way->each(way->size, messages + k * MESSAGE_BYTES, MESSAGE_BYTES,
+                  out + k * digest_len, digest_len);
+}
+
+static void run_again(void *context, unsigned long rounds)
+{
+    const struct way *way = context;
+    for (unsigned long i = 0; i < rounds; i++) {
+        if (way->all != NULL)
+            way->all(way->size, messages, sizeof messages, lengths, MESSAGES, out,
+                     MESSAGES * (way->size / 8));
+        else
+            run_each(way);
+    }
+}
+
+/* The times of ways that do not write the same would compare nothing. */
+static void stop_unless_same(struct way *ways)
+{
+    static uint8_t first[sizeof out];
+    for (unsigned i = 0; i < WAYS; i++) {
+        memset(out, 0, sizeof out);
+        run_again(&ways[i], 1);
+        if (i == 0)
+            memcpy(first, out, sizeof out);
+        if (memcmp(first, out, sizeof out) != 0) {
+            fprintf(stderr, "bench: archive and reference write other digests\n");
+            exit(1);
+        }
+    }
+}
+
+static void bench_messages(uint32_t size)
+{
+    static const double scale = 1e9 / MESSAGES;
+    struct way ways[WAYS] = {{edonr_digests, NULL, size},
+                             {reference_digests, NULL, size},
+                             {NULL, edonr_digest, size},
+                             {NULL, reference_digest, size}};
+    struct work works[WAYS];
+    stop_unless_same(ways);
+    for (unsigned i = 0; i < WAYS; i++)
+        works[i] = (struct work){run_again, &ways[i], 1, 0};
+    bench_measure(works, WAYS);
+    for (unsigned i = 0; i < WAYS; i += 2) {
+        double archive = works[i].seconds, reference = works[i + 1].seconds;
+        printf("  size %u  %-11s  archive %6.1f ns  reference %6.1f ns  "
+               "to a call each of the archive %5.2f  of the reference %5.2f\n",
+               (unsigned)size, i == 0 ? "one call" : "a call each", archive * scale,
+               reference * scale, archive / works[2].seconds, archive / works[3].seconds);
+    }
+}
+
+void bench_digests(void)
+{
+    struct rng rng = {7};
+    rng_fill(&rng, messages, sizeof messages);
+    for (size_t k = 0; k < MESSAGES; k++)
+        lengths[k] = MESSAGE_BYTES;
+    printf("B. digests of 1,000 messages of 16 bytes, a message\n");
+    bench_messages(256);
+    bench_messages(512);
+}
