@@ -9,7 +9,10 @@
 #include "bench.h"
 #include "edonr.h"
 
-enum { MESSAGES = 1000, MESSAGE_BYTES = 16, WAYS = 4 };
+enum { MESSAGES = 1000, MESSAGE_BYTES = 16 };
+
+/* All messages in one call, or a call for each, by the archive and by the reference. */
+enum { ALL, REFERENCE_ALL, EACH, REFERENCE_EACH, WAYS };
 
 typedef uint64_t digest_call(uint32_t size, const uint8_t *message, size_t message_len,
                              uint8_t *out, size_t out_len);
@@ -17,7 +20,7 @@ typedef uint64_t digests_call(uint32_t size, const uint8_t *messages, size_t mes
                               const uint32_t *lengths, size_t lengths_len, uint8_t *out,
                               size_t out_len);
 
-/* The messages in one call or in a call each; the call that is not made is null. */
+/* The call that is not made is null. */
 struct way {
     digests_call *all;
     digest_call *each;
@@ -67,21 +70,22 @@ static void stop_unless_same(struct way *ways)
 static void bench_messages(uint32_t size)
 {
     static const double scale = 1e9 / MESSAGES;
-    struct way ways[WAYS] = {{edonr_digests, NULL, size},
-                             {reference_digests, NULL, size},
-                             {NULL, edonr_digest, size},
-                             {NULL, reference_digest, size}};
+    struct way ways[WAYS] = {[ALL] = {edonr_digests, NULL, size},
+                             [REFERENCE_ALL] = {reference_digests, NULL, size},
+                             [EACH] = {NULL, edonr_digest, size},
+                             [REFERENCE_EACH] = {NULL, reference_digest, size}};
     struct work works[WAYS];
     stop_unless_same(ways);
     for (unsigned i = 0; i < WAYS; i++)
         works[i] = (struct work){run_again, &ways[i], 1, 0};
     bench_measure(works, WAYS);
-    for (unsigned i = 0; i < WAYS; i += 2) {
+    for (unsigned i = ALL; i < WAYS; i += EACH) {
         double archive = works[i].seconds, reference = works[i + 1].seconds;
         printf("  size %u  %-11s  archive %6.1f ns  reference %6.1f ns  "
                "to a call each of the archive %5.2f  of the reference %5.2f\n",
-               (unsigned)size, i == 0 ? "one call" : "a call each", archive * scale,
-               reference * scale, archive / works[2].seconds, archive / works[3].seconds);
+               (unsigned)size, i == ALL ? "one call" : "a call each", archive * scale,
+               reference * scale, archive / works[EACH].seconds,
+               archive / works[REFERENCE_EACH].seconds);
     }
 }
 

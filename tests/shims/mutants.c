@@ -1,7 +1,7 @@
 /*
  * Wrong archives: each call passes on to the archive's own, but for what the chosen mutant
  * does wrong. To be compiled with -DMUTANT=name, a name of the list below, and linked with
- * --wrap of all twenty calls, so that the comparisons meet it in the archive's place.
+ * --wrap of all twenty-one calls, so that the comparisons meet it in the archive's place.
  */
 #include <stdbool.h>
 #include <string.h>
@@ -24,6 +24,52 @@ enum mutant {
     digest_writes_behind,
     digest_without_pointer,
     digest_of_another_size,
+    digests_always_refused,
+    digests_of_first,
+    digests_of_message_before,
+    digests_of_prefixes,
+    digests_one_byte_late,
+    digests_length_by_16_bits,
+    digests_at_blocks,
+    digests_number_by_8_bits,
+    digests_of_1000,
+    digests_loses_last,
+    digests_loses_last_empty,
+    digests_skips_empty,
+    digests_224_is_256,
+    digests_256_is_512,
+    digests_384_is_512,
+    digests_512_is_256,
+    digests_answers_messages,
+    digests_answers_one,
+    digests_writes_behind,
+    digests_changes_messages,
+    digests_changes_lengths,
+    digests_count_before_size,
+    digests_sum_before_count,
+    digests_output_before_count,
+    digests_output_before_sum,
+    digests_sum_at_most,
+    digests_sum_at_least,
+    digests_sum_by_32_bits,
+    digests_bytes_without_list,
+    digests_offset_told,
+    digests_refused_with_3,
+    digests_full_refused,
+    digests_takes_one_more,
+    digests_needs_one_more,
+    digests_takes_one_less,
+    digests_none_refused,
+    digests_empty_refused,
+    digests_refused_writes,
+    digests_size_by_16_bits,
+    digests_joined_by_32_bits,
+    digests_list_in_bytes,
+    digests_list_by_32_bits,
+    digests_output_by_32_bits,
+    digests_index_by_32_bits,
+    digests_without_messages,
+    digests_without_list,
     run_of_2048_idles,
     run_of_600,
     run_backward_of_1365_idles,
@@ -873,6 +919,231 @@ uint64_t WRAP(digest)(uint32_t size, const uint8_t *message, size_t message_len,
     if (IS(digest_writes_behind) && out_len > size / 8)
         out[size / 8] ^= 1;
     return answer;
+}
+
+/* ---------------- digests of several messages ---------------- */
+
+#define DIGESTS(name)                                                                      \
+    uint64_t name(uint32_t size, const uint8_t *messages, size_t messages_len,             \
+                  const uint32_t *lengths, size_t lengths_len, uint8_t *out,               \
+                  size_t out_len)
+
+DIGESTS(REAL(digests));
+
+enum { MOST_DIGEST = 64, MOST_LIST = 2 * EDONR_MESSAGES_MAX + 1 };
+
+struct digests {
+    uint32_t size;
+    const uint8_t *messages;
+    size_t messages_len;
+    const uint32_t *lengths;
+    size_t lengths_len;
+    uint8_t *out;
+    size_t out_len;
+};
+
+/* What the call would answer, with nothing written. */
+static uint64_t answer_of_digests(const struct digests *d)
+{
+    static uint8_t unused[EDONR_MESSAGES_MAX * MOST_DIGEST];
+    size_t len = d->out_len < sizeof unused ? d->out_len : sizeof unused;
+    return REAL(digests)(d->size, d->messages, d->messages_len, d->lengths, d->lengths_len,
+                         unused, len);
+}
+
+/* Of a list that is only claimed there is none. */
+static uint64_t sum_of_lengths(const struct digests *d)
+{
+    uint64_t sum = 0;
+    for (size_t k = 0; d->lengths_len <= MOST_LIST && k < d->lengths_len; k++)
+        sum += d->lengths[k];
+    return sum;
+}
+
+static size_t count_empty(const struct digests *d, size_t count)
+{
+    size_t empty = 0;
+    for (size_t k = 0; k < count; k++)
+        empty += d->lengths[k] == 0;
+    return empty;
+}
+
+/* A message by where it starts and by its length. */
+struct part {
+    size_t start, len;
+};
+
+/* What is hashed in place of a message, by its number. */
+static struct part other_message(const struct digests *d, size_t number, struct part part)
+{
+    size_t left = part.start < d->messages_len ? d->messages_len - part.start : 0;
+    size_t len_before = number > 0 ? d->lengths[number - 1] : 0;
+    if (IS(digests_of_first))
+        return (struct part){0, d->lengths[0]};
+    if (IS(digests_of_message_before) && number > 0)
+        return (struct part){part.start - len_before, len_before};
+    if (IS(digests_of_prefixes))
+        return (struct part){0, part.start + part.len};
+    if (IS(digests_one_byte_late) && number > 0 && part.len < left)
+        return (struct part){part.start + 1, part.len};
+    if (IS(digests_sum_at_least) && part.len > left)
+        return (struct part){d->messages_len - left, left};
+    if (IS(digests_length_by_16_bits))
+        return (struct part){part.start, (uint16_t)part.len};
+    if (IS(digests_index_by_32_bits))
+        return (struct part){(uint32_t)part.start, part.len};
+    return part;
+}
+
+/* Where a digest is written, by its number; one that is lost, behind the output. */
+static size_t other_digest_place(const struct digests *d, size_t number)
+{
+    size_t digest_len = d->size / 8, block_len = d->size <= 256 ? 64 : 128;
+    bool is_lost = (IS(digests_of_1000) && number >= 1000) ||
+                   (IS(digests_loses_last) && number + 1 == d->lengths_len) ||
+                   (IS(digests_skips_empty) && d->lengths[number] == 0);
+    if (is_lost)
+        return d->out_len;
+    if (IS(digests_at_blocks))
+        return number * block_len;
+    if (IS(digests_number_by_8_bits))
+        return (uint8_t)number * digest_len;
+    if (IS(digests_skips_empty))
+        return (number - count_empty(d, number)) * digest_len;
+    return number * digest_len;
+}
+
+static uint32_t other_size(uint32_t size)
+{
+    if (IS(digests_224_is_256) && size == 224)
+        return 256;
+    if ((IS(digests_256_is_512) && size == 256) || (IS(digests_384_is_512) && size == 384))
+        return 512;
+    return IS(digests_512_is_256) && size == 512 ? 256 : size;
+}
+
+/* As far as the output goes. */
+static void write_digest(const struct digests *d, size_t number, struct part part)
+{
+    uint8_t digest[MOST_DIGEST];
+    uint32_t size = other_size(d->size);
+    size_t at = other_digest_place(d, number);
+    part = other_message(d, number, part);
+    REAL(digest)(size, d->messages + part.start, part.len, digest, sizeof digest);
+    for (size_t i = 0; i < d->size / 8 && at + i < d->out_len; i++)
+        d->out[at + i] = digest[i % (size / 8)];
+}
+
+/* A call that is not refused. */
+static uint64_t write_digests(struct digests d)
+{
+    size_t start = 0, count = d.lengths_len;
+    if (IS(digests_loses_last_empty) && count > 0 && d.lengths[count - 1] == 0)
+        count--;
+    size_t len = count * (d.size / 8);
+    for (size_t k = 0; k < count; k++) {
+        write_digest(&d, k, (struct part){start, d.lengths[k]});
+        start += d.lengths[k];
+    }
+    if (IS(digests_writes_behind) && d.out_len > len)
+        d.out[len] ^= 1;
+    if (IS(digests_changes_messages) && d.messages_len > 0)
+        ((uint8_t *)d.messages)[d.messages_len - 1] ^= 1;
+    if (IS(digests_changes_lengths) && count > 0)
+        ((uint32_t *)d.lengths)[count - 1] ^= 1;
+    if (IS(digests_answers_messages))
+        return count;
+    return IS(digests_answers_one) ? d.size / 8 : len;
+}
+
+/* Whether a call is accepted that is to be refused with this number. */
+static bool is_accepted_otherwise(const struct digests *d, uint32_t refusal)
+{
+    uint64_t sum = sum_of_lengths(d);
+    size_t count = d->lengths_len, len = count * (d->size / 8);
+    bool fits = d->out_len >= len;
+    switch (refusal) {
+    case EDONR_REFUSED_MESSAGE_COUNT:
+        return IS(digests_takes_one_more) && count == EDONR_MESSAGES_MAX + 1 &&
+               sum == d->messages_len && fits;
+    case EDONR_REFUSED_JOINED_LENGTH:
+        return fits && ((IS(digests_sum_at_most) && sum < d->messages_len) ||
+                        (IS(digests_sum_at_least) && sum > d->messages_len) ||
+                        (IS(digests_bytes_without_list) && count == 0));
+    case EDONR_REFUSED_OUTPUT: return IS(digests_takes_one_less) && d->out_len + 1 == len;
+    default: return false;
+    }
+}
+
+/* With which number a call is refused that is to be refused with this one. */
+static uint32_t other_refusal_number(const struct digests *d, uint32_t refusal)
+{
+    bool is_size = refusal == EDONR_REFUSED_SIZE;
+    bool is_count = refusal == EDONR_REFUSED_MESSAGE_COUNT;
+    bool is_sum = refusal == EDONR_REFUSED_JOINED_LENGTH;
+    bool is_too_short = d->out_len < d->lengths_len * (d->size / 8);
+    if (IS(digests_count_before_size) && is_size && d->lengths_len > EDONR_MESSAGES_MAX)
+        return EDONR_REFUSED_MESSAGE_COUNT;
+    if (IS(digests_sum_before_count) && is_count && sum_of_lengths(d) != d->messages_len)
+        return EDONR_REFUSED_JOINED_LENGTH;
+    if (is_too_short && ((IS(digests_output_before_count) && is_count) ||
+                         (IS(digests_output_before_sum) && is_sum)))
+        return EDONR_REFUSED_OUTPUT;
+    if (IS(digests_refused_with_3) && is_sum && d->messages_len >= AT(61))
+        return EDONR_REFUSED_MESSAGE;
+    return refusal;
+}
+
+static uint64_t other_digests_refusal(const struct digests *d, uint64_t answer)
+{
+    uint32_t refusal = edonr_refusal(answer);
+    bool is_sum = refusal == EDONR_REFUSED_JOINED_LENGTH;
+    if (IS(digests_refused_writes) && d->out_len > 0)
+        d->out[0] ^= 1;
+    if (is_accepted_otherwise(d, refusal))
+        return write_digests(*d);
+    if (IS(digests_sum_by_32_bits) && is_sum &&
+        (uint32_t)sum_of_lengths(d) == d->messages_len)
+        return d->lengths_len * (d->size / 8);
+    return edonr_refused(other_refusal_number(d, refusal),
+                         IS(digests_offset_told) && is_sum ? (uint32_t)d->lengths_len : 0);
+}
+
+/* With which number a call is refused that is to be accepted; 0 if it is. */
+static uint32_t new_refusal(const struct digests *d)
+{
+    size_t count = d->lengths_len;
+    bool is_exact = count > 0 && d->out_len == count * (d->size / 8);
+    if (IS(digests_full_refused) && count == EDONR_MESSAGES_MAX)
+        return EDONR_REFUSED_MESSAGE_COUNT;
+    if ((IS(digests_none_refused) && count == 0) ||
+        (IS(digests_empty_refused) && count_empty(d, count) > 0) ||
+        (IS(digests_without_messages) && count > 0 && d->messages == NULL) ||
+        (IS(digests_without_list) && d->lengths == NULL))
+        return EDONR_REFUSED_JOINED_LENGTH;
+    if (IS(digests_always_refused) || (IS(digests_needs_one_more) && is_exact))
+        return EDONR_REFUSED_OUTPUT;
+    return 0;
+}
+
+DIGESTS(WRAP(digests))
+{
+    struct digests d = {size, messages, messages_len, lengths, lengths_len, out, out_len};
+    if (IS(digests_size_by_16_bits))
+        d.size = (uint16_t)size;
+    if (IS(digests_joined_by_32_bits))
+        d.messages_len = (uint32_t)messages_len;
+    if (IS(digests_list_in_bytes))
+        d.lengths_len /= sizeof lengths[0];
+    if (IS(digests_list_by_32_bits))
+        d.lengths_len = (uint32_t)lengths_len;
+    if (IS(digests_output_by_32_bits))
+        d.out_len = (uint32_t)out_len;
+    uint64_t answer = answer_of_digests(&d);
+    if (!succeeds(answer))
+        return other_digests_refusal(&d, answer);
+    uint32_t refusal = new_refusal(&d);
+    return refusal != 0 ? edonr_refused(refusal, 0) : write_digests(d);
 }
 
 /* ---------------- blocks ---------------- */
