@@ -373,7 +373,8 @@ static void compare_random(void)
             d.size = (uint32_t)random_near(size);
         if (random_below(8) == 0)
             d.messages_len = (size_t)random_near(d.messages_len);
-        if (!is_refusal(check_digests_call(&d, written)))
+        uint64_t got = check_digests_call(&d, written);
+        if (!is_refusal(got) && d.size == size)
             check_one_by_one(&d, written);
     }
 }
@@ -455,19 +456,27 @@ static const size_t list_lens[] = {
     AT_32, AT_32 + 1, AT_32 + 1024, (size_t)1 << 62, ((size_t)1 << 62) + 2, SIZE_MAX,
 };
 
-static const uint64_t beside_sum[] = {
-    0, 1, UINT64_MAX, AT_32, (uint64_t)1 << 63,
-};
+/* Joined lengths by what they are more than the sum. */
+static const uint64_t beside_sum[] = {0, 1, UINT64_MAX, AT_32, (uint64_t)1 << 63};
 
-/* Outputs by how many bytes they have more than is needed, if they have as many; and one
-   that has any number, which is only claimed. */
-static const int64_t beside_out[] = {0, 1, -1, -(int64_t)DIGESTS_CALL_OUT, INT64_MAX};
+/* Outputs of just the digests' length, of a byte more or less, of none and of the most. */
+enum output { EXACT, ONE_MORE, ONE_LESS, NONE, THE_MOST, OUTPUTS };
 
 enum {
     LISTS = sizeof list_lens / sizeof list_lens[0],
-    SUMS = sizeof beside_sum / sizeof beside_sum[0],
-    OUTS = sizeof beside_out / sizeof beside_out[0]
+    SUMS = sizeof beside_sum / sizeof beside_sum[0]
 };
+
+static size_t choose_out_len(enum output output, size_t len)
+{
+    switch (output) {
+    case EXACT: return len;
+    case ONE_MORE: return len + 1;
+    case ONE_LESS: return len > 0 ? len - 1 : 0;
+    case NONE: return 0;
+    default: return SIZE_MAX;
+    }
+}
 
 /* An output that is only claimed goes with a call that is refused. */
 static void compare_list(uint32_t size, unsigned number)
@@ -475,14 +484,12 @@ static void compare_list(uint32_t size, unsigned number)
     size_t count = list_lens[number % LISTS];
     size_t held = count <= DIGESTS_CALL_LENGTHS ? count : DIGESTS_CALL_LENGTHS;
     uint64_t beside = beside_sum[number / LISTS % SUMS];
-    int64_t out_beside = beside_out[number / LISTS / SUMS];
-    int64_t len = (int64_t)(held * (size / 8)) + out_beside;
-    struct digests d = {size, messages, (size_t)(sum_of(held) + beside), lengths, count, 0};
-    if (out_beside == INT64_MAX)
-        d.out_len = beside != 0 || count > MOST_MESSAGES ? SIZE_MAX : DIGESTS_CALL_OUT;
-    else if (len > 0)
-        d.out_len = len <= DIGESTS_CALL_OUT ? (size_t)len : DIGESTS_CALL_OUT;
-    check_digests_call(&d, NULL);
+    enum output output = (enum output)(number / LISTS / SUMS);
+    struct digests d = call_of(size, held, choose_out_len(output, held * (size / 8)));
+    d.messages_len += (size_t)beside;
+    d.lengths_len = count;
+    if (output != THE_MOST || beside != 0 || count > MOST_MESSAGES)
+        check_digests_call(&d, NULL);
 }
 
 static void compare_refusals(void)
@@ -491,7 +498,7 @@ static void compare_refusals(void)
     make_lengths(SHORT, DIGESTS_CALL_LENGTHS);
     random_fill(messages, (size_t)sum_of(DIGESTS_CALL_LENGTHS) + 1);
     for (unsigned i = 0; i < 4; i++)
-        for (unsigned number = 0; number < LISTS * SUMS * OUTS; number++)
+        for (unsigned number = 0; number < LISTS * SUMS * OUTPUTS; number++)
             compare_list(sizes[i], number);
 }
 
