@@ -3,9 +3,9 @@ use mathlib.Core.Path.{_≡_, sym, ap, _∙_}
 use mathlib.Core.Bool.{Bool, true, false, not}
 use mathlib.Core.List.{List, _++_}
 use Prim.Native.Nat.{ℕ, _≤_, _<_}
-use borrow.Author.Tests.{le-leb, lt-leb}
-use lib.Dec.{eqb}
-use lib.ListN.{length, drop}
+use borrow.Author.Tests.{leb-true, not-true, not-false, le-leb, lt-leb}
+use lib.Dec.{eqb, leb}
+use lib.ListN.{length, take, drop}
 use Rattle.answer.specs.declared.Answer.{Answer}
 use Rattle.answer.specs.declared.Answer.the-variants.{Done, Refused}
 use Rattle.answer.specs.declared.Refusal.the-variants.{Size, MessageCount, JoinedLength, Output}
@@ -18,9 +18,10 @@ use Rattle.batch.specs.Batch.{messages, digests, digestsLength, batchAns
 use Rattle.batch.specs.Refusals.{Known}
 use Rattle.batch.proofs.Tests.{Accepted, accepted, unknown-size, too-many, other-sum, no-room, done}
 use Rattle.batch.proofs.Fitting.{digests-bound}
+use Rattle.batch.proofs.Sums.{of-all}
 
--- ---- the answer, test by test
-module _ (n joined : ℕ) (ns : List ℕ) (room : ℕ) {t : Bool} (e : t ≡ knownSize (kindFor n) n) where
+-- ---- the answer, test by test: t and m are what the code found of the size and of the sum
+module _ (n joined : ℕ) (ns : List ℕ) (room : ℕ) {t : Bool} (e : t ≡ knownSize (kindFor n) n) {m : ℕ} (d : m ≡ total (take 1024 ns)) where
   abbrev l : ℕ
   l = digestsLength n (length ns)
 
@@ -28,23 +29,28 @@ module _ (n joined : ℕ) (ns : List ℕ) (room : ℕ) {t : Bool} (e : t ≡ kno
   ends-unknown h = sym (unknown-size n joined ns room (stops e h))
 
   module _ (h : not t ≡ false) where
-    pub ends-many : 1024 < length ns → Refused MessageCount 0 ≡ batchAnswer n joined ns room
-    ends-many g = sym (too-many n joined ns room (goes-on e h) (lt-leb (length ns) 1024 g))
+    pub ends-many : not (leb (length ns) 1024) ≡ true → Refused MessageCount 0 ≡ batchAnswer n joined ns room
+    ends-many g = sym (too-many n joined ns room (goes-on e h) (not-true (leb (length ns) 1024) g))
 
-    module _ (f : length ns ≤ 1024) where
+    module _ (g : not (leb (length ns) 1024) ≡ false) where
+      few : leb (length ns) 1024 ≡ true
+      few = not-false (leb (length ns) 1024) g
+
+      sum-is : eqb m joined ≡ eqb (total ns) joined
+      sum-is = ap (λ (x : ℕ). eqb x joined) (of-all ns d few)
+
       pub few-bytes : l ≤ 65536
-      few-bytes = digests-bound n (length ns) (goes-on e h) f
+      few-bytes = digests-bound n (length ns) (goes-on e h) (leb-true (length ns) 1024 few)
 
-      module _ {u : Bool} (d : u ≡ eqb (total ns) joined) where
-        pub ends-other : not u ≡ true → Refused JoinedLength 0 ≡ batchAnswer n joined ns room
-        ends-other g = sym (other-sum n joined ns room (goes-on e h) (le-leb (length ns) 1024 f) (stops d g))
+      pub ends-other : not (eqb m joined) ≡ true → Refused JoinedLength 0 ≡ batchAnswer n joined ns room
+      ends-other f = sym (other-sum n joined ns room (goes-on e h) few (stops sum-is f))
 
-        module _ (g : not u ≡ false) where
-          pub ends-short : room < l → Refused Output 0 ≡ batchAnswer n joined ns room
-          ends-short r = sym (no-room n joined ns room (goes-on e h) (le-leb (length ns) 1024 f) (goes-on d g) (lt-leb l room r))
+      module _ (f : not (eqb m joined) ≡ false) where
+        pub ends-short : room < l → Refused Output 0 ≡ batchAnswer n joined ns room
+        ends-short r = sym (no-room n joined ns room (goes-on e h) few (goes-on sum-is f) (lt-leb l room r))
 
-          pub ends-room : l ≤ room → Done l ≡ batchAnswer n joined ns room
-          ends-room r = sym (done n joined ns room (goes-on e h) (le-leb (length ns) 1024 f) (goes-on d g) (le-leb l room r))
+        pub ends-room : l ≤ room → Done l ≡ batchAnswer n joined ns room
+        ends-room r = sym (done n joined ns room (goes-on e h) few (goes-on sum-is f) (le-leb l room r))
 
 -- ---- the call, by its answer
 module _ (n : ℕ) (s ns out : List ℕ) {r : Answer} (e : r ≡ batchAnswer n (length s) ns (length out)) {t : Bool} (d : t ≡ isDone r) where

@@ -2,9 +2,8 @@
 ghost use mathlib.Core.Path.{_≡_};
 ghost use mathlib.Core.Bool.{true};
 ghost use mathlib.Core.List.{_++_};
-ghost use Prim.Native.Nat.{_≤_};
-ghost use lib.Dec.{eqb};
-ghost use lib.ListN.{length, drop};
+ghost use Prim.Native.Nat.{_≤_, min};
+ghost use lib.ListN.{length, take, drop};
 ghost use Rattle.memory.specs.Lists.{total};
 ghost use Rattle.digest.specs.Kind.{knownSize, kindFor};
 ghost use Rattle.batch.specs.Batch.{messages, digests, digestsLength, batchAnswer, batchOut};
@@ -25,34 +24,45 @@ fn is_known(size: u32) -> bool
     refusal::is_size(224, 256, size as u64)
 }
 
-// Whether the lengths sum to `joined`. They are taken away from it one by one, so that there is no sum that could overflow.
-fn sum_to(lengths: &[u32], joined: usize) -> bool
-    ensures { λ r. ⌜ r ≡ eqb (total (now (lengths .entry))) joined ⌝ }
+// How many of `n` lengths are added: a longer list is refused whatever its sum.
+fn added_count(n: usize) -> usize
+    ensures { λ r. ⌜ r ≡ min 1024 n ⌝ }
 {
-    let mut left = joined;
-    let mut k: usize = 0;
-    while k < lengths.len() {
-        let len = lengths[k] as usize;
-        if left < len {
-            return false;
-        }
-        left -= len;
-        k += 1;
+    if MOST < n {
+        return MOST;
     }
-    left == 0
+    n
+}
+
+// The sum of the first 1,024 lengths, of all if there are no more: it fits, whatever the list.
+fn total_length(lengths: &[u32]) -> u64
+    ensures { λ r. ⌜ r ≡ total (take 1024 (now (lengths .entry))) ⌝ }
+{
+    let n = added_count(lengths.len());
+    let mut sum: u64 = 0;
+    let mut i: usize = 0;
+    while i < n {
+        sum += lengths[i] as u64;
+        i += 1;
+    }
+    sum
 }
 
 // What the call answers for messages of `joined` bytes together and an output of `room` bytes.
 fn answer_for(size: u32, joined: usize, lengths: &[u32], room: usize) -> Answer
     ensures { λ r. ⌜ r ≡ batchAnswer size joined (now (lengths .entry)) room ⌝ }
 {
-    if !is_known(size) {
+    let known = is_known(size);
+    let sum = total_length(lengths);
+    let few = lengths.len() <= MOST;
+    let whole = sum == joined as u64;
+    if !known {
         return Answer::Refused(Refusal::Size, 0);
     }
-    if MOST < lengths.len() {
+    if !few {
         return Answer::Refused(Refusal::MessageCount, 0);
     }
-    if !sum_to(lengths, joined) {
+    if !whole {
         return Answer::Refused(Refusal::JoinedLength, 0);
     }
     let written = lengths.len() * ((size / 8) as usize);

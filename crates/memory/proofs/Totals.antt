@@ -1,9 +1,9 @@
 -- Sums of lists in parts.
 use mathlib.Core.Path.{_≡_, refl, ap, _∙_}
 use mathlib.Core.List.{List, [], _∷_, sum}
-use Prim.Native.Nat.{ℕ, zero, suc, _+_, _≤_, _<_}
+use Prim.Native.Nat.{ℕ, zero, suc, _+_, _<_}
 use native.Mathlib.Omega.{arith}
-use lib.ListN.{length, getD, take, drop, drop-of-length-le}
+use lib.ListN.{length, getD, take, drop}
 use lib.Seq.{drop-cons}
 use Rattle.memory.specs.Lists.{total}
 
@@ -22,6 +22,6 @@ total-parts (x ∷ l) (suc k) = omega (arith, total-parts l k)
 pub total-next : (l : List ℕ) (k : ℕ) → k < length l → total (drop k l) ≡ getD l k 0 + total (drop (suc k) l)
 total-next l k h = ap total (drop-cons l k 0 h) ∙ total-cons (getD l k 0) (drop (suc k) l)
 
-pub total-end : (l : List ℕ) (k : ℕ) → length l ≤ k → total (drop k l) ≡ 0
-unfolding sum
-total-end l k h = ap total (drop-of-length-le l h)
+-- before place k, and before the next one
+pub total-more : (l : List ℕ) (k : ℕ) → k < length l → total (take (suc k) l) ≡ total (take k l) + getD l k 0
+total-more l k h = omega (arith, total-parts l k, total-parts l (suc k), total-next l k h)
