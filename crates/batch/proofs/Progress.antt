@@ -57,9 +57,13 @@ module _ {n : ℕ} {s ns old : List ℕ} {from k : ℕ} {out : List ℕ} (p : Pr
       ∙ ap₂ {C = List ℕ} (λ j l. take (j * w) out ++ (digests n (messages (drop from s) l) ++ drop end-of-all out)) e (sym (drop-of-length-le ns h))
       ∙ p .written
 
-  module _ (h : k < length ns) where
-    pub inside : from + getD ns k 0 ≤ length s
-    inside = omega (arith, p .unread, total-next ns k h)
+  pub within : from ≤ length s
+  within = omega (arith, p .unread)
+
+  -- the next message has j bytes
+  module _ (h : k < length ns) {j : ℕ} (q : j ≡ getD ns k 0) where
+    pub inside : from + j ≤ length s
+    inside = omega (arith, p .unread, q, total-next ns k h)
 
     last : k * w + w ≤ end-of-all
     last = omega (arith, mul-le-mul-right {m = suc k} {n = length ns} w h, suc-mul k w)
@@ -67,10 +71,10 @@ module _ {n : ℕ} {s ns old : List ℕ} {from k : ℕ} {out : List ℕ} (p : Pr
     fits : k * w + w ≤ length out
     fits = omega (arith, last, p .room, p .same)
 
-    module _ (short : getD ns k 0 < 2 ^ 32) (mid : List ℕ)
-        (e : mid ≡ oneCallOut n (take (from + getD ns k 0 - from) (drop from s)) (midOf (k * w) (length out - k * w) out)) where
+    module _ (short : j < 2 ^ 32) (mid : List ℕ)
+        (e : mid ≡ oneCallOut n (take (from + j - from) (drop from s)) (midOf (k * w) (length out - k * w) out)) where
       abbrev m : List ℕ
-      m = take (getD ns k 0) (drop from s)
+      m = take j (drop from s)
 
       abbrev d : List ℕ
       d = digestOf (kindFor n) n m
@@ -78,28 +82,29 @@ module _ {n : ℕ} {s ns old : List ℕ} {from k : ℕ} {out : List ℕ} (p : Pr
       -- the output with the digest in its place
       pub is-placed : putMid (k * w) (length out - k * w) out mid ≡ placed out (k * w) w d
       is-placed =
-          let f : from + getD ns k 0 - from ≡ getD ns k 0 = omega arith in
+          let f : from + j - from ≡ j = omega arith in
           part-put out (k * w) starts mid
           ∙ ap (λ (x : List ℕ). take (k * w) out ++ x)
-          (e ∙ ap₂ {C = List ℕ} (λ j x. oneCallOut n (take j (drop from s)) x) f (part-is out (k * w) starts))
-          ∙ call-writes n (p .known) m out (k * w) (is-short (getD ns k 0) (drop from s) short) fits .1
+          (e ∙ ap₂ {C = List ℕ} (λ i x. oneCallOut n (take i (drop from s)) x) f (part-is out (k * w) starts))
+          ∙ call-writes n (p .known) m out (k * w) (is-short j (drop from s) short) fits .1
 
       -- what was to come is this digest and what is to come now
-      coming : d ++ digests n (messages (drop (from + getD ns k 0) s) (drop (suc k) ns)) ≡ digests n (messages (drop from s) (drop k ns))
+      coming : d ++ digests n (messages (drop (from + j) s) (drop (suc k) ns)) ≡ digests n (messages (drop from s) (drop k ns))
       coming =
-          ap (λ (x : List ℕ). d ++ digests n (messages x (drop (suc k) ns))) (sym (drop-drop (getD ns k 0) from s))
+          ap (λ (x : List ℕ). d ++ digests n (messages x (drop (suc k) ns))) (sym (drop-drop j from s))
+          ∙ ap (λ (x : ℕ). digests n (messages (drop from s) (x ∷ drop (suc k) ns))) q
           ∙ ap (λ (l : List ℕ). digests n (messages (drop from s) l)) (sym (drop-cons ns k 0 h))
 
-      pub next : Progress n s ns old (from + getD ns k 0) (k + 1) (putMid (k * w) (length out - k * w) out mid)
+      pub next : Progress n s ns old (from + j) (k + 1) (putMid (k * w) (length out - k * w) out mid)
       next =
           let o = placed out (k * w) w d in
-          let x = digests n (messages (drop (from + getD ns k 0) s) (drop (suc k) ns)) in
+          let x = digests n (messages (drop (from + j) s) (drop (suc k) ns)) in
           let l = digest-length n m (p .known) in
           rw (add-one k, is-placed) record {
             known = p .known;
             room = p .room;
             bound = h;
-            unread = omega (arith, p .unread, total-next ns k h);
+            unread = omega (arith, p .unread, q, total-next ns k h);
             same = placed-length out (k * w) w d l fits ∙ p .same;
             written =
                 ap (λ (i : ℕ). take i o ++ (x ++ drop end-of-all o)) (suc-mul k w) ∙ one-more out (k * w) w d l fits x end-of-all last

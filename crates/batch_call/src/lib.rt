@@ -2,7 +2,7 @@
 ghost use mathlib.Core.Path.{_≡_};
 ghost use mathlib.Core.Bool.{true};
 ghost use mathlib.Core.List.{_++_};
-ghost use Prim.Native.Nat.{_≤_, min};
+ghost use Prim.Native.Nat.{_≤_, _<_, min};
 ghost use lib.ListN.{length, take, drop};
 ghost use Rattle.memory.specs.Lists.{total};
 ghost use Rattle.digest.specs.Kind.{knownSize, kindFor};
@@ -72,6 +72,14 @@ fn answer_for(size: u32, joined: usize, lengths: &[u32], room: usize) -> Answer
     Answer::Done(written as u64)
 }
 
+// A length as a number of bytes.
+fn byte_count(length: u32) -> usize
+    ensures { λ r. ⌜ r ≡ length ⌝ }
+    ensures { λ r. ⌜ r < 4294967296 ⌝ }
+{
+    length as usize
+}
+
 // The digest of each message, to its place in `out`: the one call is lent the part of `out` that starts there.
 fn digest_each(size: u32, joined: &[u8], lengths: &[u32], out: &mut [u8])
     requires { let ns = now lengths in
@@ -83,7 +91,7 @@ fn digest_each(size: u32, joined: &[u8], lengths: &[u32], out: &mut [u8])
     let mut from: usize = 0;
     let mut k: usize = 0;
     while k < lengths.len() {
-        let to = from + lengths[k] as usize;
+        let to = from + byte_count(lengths[k]);
         let at = k * bytes;
         one_call::digest(size, &joined[from..to], &mut out[at..]);
         from = to;
