@@ -5,7 +5,7 @@ use mathlib.Core.List.{List, _++_}
 use Prim.Native.Nat.{ℕ, _≤_, _<_}
 use borrow.Author.Tests.{leb-true, not-true, not-false, le-leb, lt-leb}
 use lib.Dec.{eqb, leb}
-use lib.ListN.{length, take, drop}
+use lib.ListN.{length, drop}
 use Rattle.answer.specs.declared.Answer.{Answer}
 use Rattle.answer.specs.declared.Answer.the-variants.{Done, Refused}
 use Rattle.answer.specs.declared.Refusal.the-variants.{Size, MessageCount, JoinedLength, Output}
@@ -18,10 +18,10 @@ use Rattle.batch.specs.Batch.{messages, digests, digestsLength, batchAns
 use Rattle.batch.specs.Refusals.{Known}
 use Rattle.batch.proofs.Tests.{Accepted, accepted, unknown-size, too-many, other-sum, no-room, done}
 use Rattle.batch.proofs.Fitting.{digests-bound}
-use Rattle.batch.proofs.Sums.{of-all}
+use Rattle.batch.proofs.Sums.{Sum, of-all}
 
 -- ---- the answer, test by test: t and m are what the code found of the size and of the sum
-module _ (n joined : ℕ) (ns : List ℕ) (room : ℕ) {t : Bool} (e : t ≡ knownSize (kindFor n) n) {m : ℕ} (d : m ≡ total (take 1024 ns)) where
+module _ (n joined : ℕ) (ns : List ℕ) (room : ℕ) {t : Bool} (e : t ≡ knownSize (kindFor n) n) {m : ℕ} (d : Sum ns m) where
   abbrev l : ℕ
   l = digestsLength n (length ns)
 

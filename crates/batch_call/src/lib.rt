@@ -1,9 +1,10 @@
 // The digests of many messages in one call: the call tests its arguments and refuses by number.
 ghost use mathlib.Core.Path.{_≡_};
-ghost use mathlib.Core.Bool.{true};
+ghost use mathlib.Core.Bool.{cond};
 ghost use mathlib.Core.List.{_++_};
-ghost use Prim.Native.Nat.{_≤_, _<_, min};
-ghost use lib.ListN.{length, take, drop};
+ghost use Prim.Native.Nat.{_≤_, _<_};
+ghost use lib.Dec.{leb};
+ghost use lib.ListN.{length, drop};
 ghost use Rattle.memory.specs.Lists.{total};
 ghost use Rattle.digest.specs.Kind.{knownSize, kindFor};
 ghost use Rattle.batch.specs.Batch.{messages, digests, digestsLength, batchAnswer, batchOut};
@@ -24,24 +25,16 @@ fn is_known(size: u32) -> bool
     refusal::is_size(224, 256, size as u64)
 }
 
-// How many of `n` lengths are added: a longer list is refused whatever its sum.
-fn added_count(n: usize) -> usize
-    ensures { λ r. ⌜ r ≡ min 1024 n ⌝ }
-{
-    if MOST < n {
-        return MOST;
-    }
-    n
-}
-
-// The sum of the first 1,024 lengths, of all if there are no more: it fits, whatever the list.
+// The sum of the lengths. More than 1,024 are refused whatever they are, so they are not read, and 0 stands for their sum.
 fn total_length(lengths: &[u32]) -> u64
-    ensures { λ r. ⌜ r ≡ total (take 1024 (now (lengths .entry))) ⌝ }
+    ensures { λ r. let ns = now (lengths .entry) in ⌜ r ≡ cond (leb (length ns) 1024) (total ns) 0 ⌝ }
 {
-    let n = added_count(lengths.len());
+    if MOST < lengths.len() {
+        return 0;
+    }
     let mut sum: u64 = 0;
     let mut i: usize = 0;
-    while i < n {
+    while i < lengths.len() {
         sum += lengths[i] as u64;
         i += 1;
     }
