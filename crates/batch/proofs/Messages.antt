@@ -1,12 +1,12 @@
 -- The messages in the joined bytes, by number and together.
-use mathlib.Core.Path.{_≡_, refl, ap, sym, _∙_}
+use mathlib.Core.Path.{_≡_, refl, ap, _∙_}
 use mathlib.Core.List.{List, [], _∷_, _++_, sum}
-use Prim.Native.Nat.{ℕ, zero, suc, _+_, _-_, _≤_, _<_}
+use Prim.Native.Nat.{ℕ, zero, suc, _+_, _≤_, _<_}
 use native.Mathlib.Omega.{arith}
 use lib.ListN.{length, getD, take, drop, length-drop, take-append-drop}
 use lib.Seq.{drop-drop, length-take-le}
 use Rattle.memory.specs.Lists.{total}
-use Rattle.memory.proofs.Totals.{total-cons, total-parts, total-next}
+use Rattle.memory.proofs.Totals.{total-parts, total-next}
 use Rattle.digest.specs.Cutting.{concatenated}
 use Rattle.batch.specs.Batch.{messages}
 use Rattle.batch.specs.Messages.{message, MessagesJoined}

@@ -1,6 +1,5 @@
 -- What the call refuses.
 use mathlib.Core.Path.{_≡_, refl, sym, ap, _∙_}
-use mathlib.Core.Bool.{true, false}
 use mathlib.Core.List.{List, [], _++_, sum}
 use Prim.Native.Nat.{ℕ, _/_}
 use native.Mathlib.Nat.{zero-mul}

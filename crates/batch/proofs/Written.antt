@@ -1,14 +1,13 @@
 -- What a success writes and answers.
 use mathlib.Core.Path.{_≡_, ap, sym, _∙_}
-use mathlib.Core.Bool.{true}
-use mathlib.Core.List.{List, [], _++_}
+use mathlib.Core.List.{List, _++_}
 use Prim.Native.Nat.{ℕ, _*_, _/_, _<_}
 use native.Mathlib.Omega.{arith}
-use lib.ListN.{length, getD, drop, length-append, length-drop}
+use lib.ListN.{length, drop, length-append, length-drop}
 use lib.Seq.{drop-at}
 use Rattle.answer.specs.declared.Answer.{Answer}
 use Rattle.answer.specs.declared.Answer.the-variants.{Done}
-use Rattle.answer.specs.Refuse.{isDone, outcome}
+use Rattle.answer.specs.Refuse.{outcome}
 use Rattle.memory.specs.Lists.{bytesAt}
 use Rattle.digest.specs.Kind.{kindFor}
 use Rattle.digest.specs.OneCall.{digestOf}

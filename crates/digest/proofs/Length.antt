@@ -2,10 +2,10 @@
 use mathlib.Core.Path.{_≡_, refl, ap, _∙_}
 use mathlib.Core.Bool.{Bool, true, false, cond}
 use mathlib.Core.List.{List, _++_}
-use Prim.Native.Nat.{ℕ, zero, suc, _+_, _-_, _*_, _/_, _≤_}
+use Prim.Native.Nat.{ℕ, zero, suc, _-_, _*_, _/_, _≤_}
 use native.Mathlib.Omega.{arith}
 use lib.Dec.{eqb, lit≤}
-use lib.ListN.{length, length-append, length-drop}
+use lib.ListN.{length, length-drop}
 use Rattle.answer.proofs.Tests.{split}
 use Rattle.memory.proofs.Bytes.{length-bytesOf}
 use Rattle.quasigroup.specs.Tables.{Width, width32, width64}
@@ -15,7 +15,7 @@ use Rattle.digest.specs.Blocks.{block, iterated, compressed, lastBytes}
 use Rattle.digest.specs.Pipe.{Pipe, written}
 use Rattle.digest.specs.Start.{start224, start256, start384, start512}
 use Rattle.digest.specs.Step.{wordBytes, R, step}
-use Rattle.digest.specs.Kind.{kindOf, knownSize, kindFor, narrowKind, wideKind}
+use Rattle.digest.specs.Kind.{kindOf, knownSize, narrowKind, wideKind}
 use Rattle.digest.specs.OneCall.{digestOf, DigestLength}
 use Rattle.digest.proofs.Answers.{size-bound}
 

@@ -20,7 +20,8 @@ by-kind n m out b {a} {last} e f =
     subst (λ (x : Bool). (a ≡ digestAnswer (cond x wideKind narrowKind) n m out) × (last ≡ digestOut (cond x wideKind narrowKind) n m out)) (sym e) f
 
 -- whether a size is one of the four, where the test of the wide kind came out so
-pub known-by-kind : (n : ℕ) (b : Bool) {t : Bool} → t ≡ knownSize wideKind n → t ≡ b → knownSize (cond b wideKind narrowKind) n ≡ knownSize (kindFor n) n
+pub known-by-kind : (n : ℕ) (b : Bool) {t : Bool} → t ≡ knownSize wideKind n → t ≡ b
+    → knownSize (cond b wideKind narrowKind) n ≡ knownSize (kindFor n) n
 known-by-kind n b e f = ap (λ (x : Bool). knownSize (cond x wideKind narrowKind) n) (sym f ∙ e)
 
 -- where nothing is refused

@@ -56,5 +56,5 @@ digest-each-spec =
     tie.close
     (tie.spec
     Inv-loop μ-loop (λ c. search needs) loop-holds (λ c. search needs) (λ c. search needs) (λ c κs. search needs) add-to mul-at
-    (λ c. search needs) (λ c. search needs) part-digest-end sub-digest-2 part-digest-start-2 (λ c. search needs) (λ c κs. search needs) (λ c. search needs)
-    (λ c. search needs) loop-again same-length returns)
+    (λ c. search needs) (λ c. search needs) part-digest-end sub-digest-2 part-digest-start-2 (λ c. search needs) (λ c κs. search needs)
+    (λ c. search needs) (λ c. search needs) loop-again same-length returns)
