@@ -7,18 +7,17 @@ use native.Mathlib.Omega.{arith}
 use lib.ListN.{length, getD, take, length-append}
 use lib.Seq.{take-at, drop-append-add}
 use Rattle.memory.specs.Lists.{bytesAt}
-use Rattle.digest.specs.Kind.{kindFor}
-use Rattle.digest.specs.OneCall.{digestOf}
+use Rattle.digest.specs.Kind.{Known}
+use Rattle.digest.specs.OneCall.{digestFor}
 use Rattle.digest.proofs.Length.{digest-length}
 use Rattle.batch.specs.Batch.{digests, digestsLength}
-use Rattle.batch.specs.Refusals.{Known}
 
 module _ (n : ℕ) (known : Known n) where
   abbrev w : ℕ
   w = n / 8
 
   abbrev digest : List ℕ → List ℕ
-  digest m = digestOf (kindFor n) n m
+  digest m = digestFor n m
 
   pub digests-length : (ms : List (List ℕ)) → length (digests n ms) ≡ digestsLength n (length ms)
   digests-length [] = sym (zero-mul w)

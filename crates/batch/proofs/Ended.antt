@@ -13,9 +13,8 @@ use Rattle.answer.specs.Refuse.{isDone}
 use Rattle.answer.proofs.Tests.{goes-on, stops}
 use Rattle.answer.proofs.Outcome.{ends-refused, ends-done}
 use Rattle.memory.specs.Lists.{total}
-use Rattle.digest.specs.Kind.{knownSize, kindFor}
+use Rattle.digest.specs.Kind.{knownSize, kindFor, Known}
 use Rattle.batch.specs.Batch.{messages, digests, digestsLength, batchAnswer, batchOut}
-use Rattle.batch.specs.Refusals.{Known}
 use Rattle.batch.proofs.Tests.{Accepted, accepted, unknown-size, too-many, other-sum, no-room, done}
 use Rattle.batch.proofs.Fitting.{digests-bound}
 use Rattle.batch.proofs.Sums.{Sum, of-all}

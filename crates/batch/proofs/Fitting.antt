@@ -8,10 +8,9 @@ use lib.ListN.{length}
 use Rattle.answer.specs.declared.Refusal.the-variants.{Size, MessageCount, JoinedLength, Output}
 use Rattle.answer.proofs.Injective.{fits-unless}
 use Rattle.memory.specs.Lists.{total}
-use Rattle.digest.specs.Kind.{knownSize, kindFor}
+use Rattle.digest.specs.Kind.{knownSize, kindFor, Known}
 use Rattle.digest.proofs.Answers.{known-bound}
 use Rattle.batch.specs.Batch.{digestsLength}
-use Rattle.batch.specs.Refusals.{Known}
 use Rattle.batch.specs.Fitting.{BatchFits}
 
 pub digests-bound : (n c : ℕ) → Known n → c ≤ 1024 → digestsLength n c ≤ 65536

@@ -3,7 +3,6 @@ pub mod Tests
 pub mod Refusals
 pub mod Digests
 pub mod Written
-pub mod Placed
 pub mod Calls
 pub mod Fitting
 pub mod Sums

@@ -11,12 +11,11 @@ use lib.Seq.{drop-cons, drop-drop}
 use Rattle.memory.specs.Lists.{total}
 use Rattle.memory.proofs.Totals.{total-next}
 use Rattle.memory.proofs.Parts.{part-is, part-put}
-use Rattle.digest.specs.Kind.{kindFor}
-use Rattle.digest.specs.OneCall.{digestOf, oneCallOut}
+use Rattle.digest.specs.Kind.{Known}
+use Rattle.digest.specs.OneCall.{digestFor, oneCallOut}
 use Rattle.digest.proofs.Length.{digest-length}
 use Rattle.batch.specs.Batch.{messages, digests, digestsLength}
-use Rattle.batch.specs.Refusals.{Known}
-use Rattle.batch.proofs.Placed.{placed, placed-length, one-more}
+use Rattle.memory.proofs.Placed.{placed, placed-length, one-more}
 use Rattle.batch.proofs.Calls.{is-short, call-writes}
 
 -- The digests of k messages are written over the output `old`; the next message begins at byte `from`
@@ -77,7 +76,7 @@ module _ {n : ℕ} {s ns old : List ℕ} {from k : ℕ} {out : List ℕ} (p : Pr
       m = take j (drop from s)
 
       abbrev d : List ℕ
-      d = digestOf (kindFor n) n m
+      d = digestFor n m
 
       -- the output with the digest in its place
       pub is-placed : putMid (k * w) (length out - k * w) out mid ≡ placed out (k * w) w d

@@ -10,9 +10,9 @@ use lib.Dec.{leb}
 use lib.ListN.{length, getD, take}
 use lib.Seq.{take-all}
 use Rattle.memory.specs.Lists.{total}
-use Rattle.memory.proofs.Totals.{total-more}
+use Rattle.memory.proofs.Totals.{total-take}
 
--- i lengths, each below 2^32, are added, and m is what that comes to
+-- of no more than 1,024 lengths i are added, and m is what that comes to: at most 2^32 for each
 pub record Added (ns : List ℕ) (i m : ℕ) : Type 0 where
   pub few : length ns ≤ 1024
   pub bound : i ≤ length ns
@@ -30,7 +30,7 @@ none-added ns h = record { few = h; bound = omega arith; sums = refl; small = om
 module _ {ns : List ℕ} {i m : ℕ} (p : Added ns i m) where
   pub one-added : i < length ns → getD ns i 0 < 2 ^ 32 → Added ns (i + 1) (m + getD ns i 0)
   one-added h g =
-      rw (add-one i) record { few = p .few; bound = h; sums = omega (arith, p .sums, total-more ns i h); small = omega (arith, p .small, g) }
+      rw (add-one i) record { few = p .few; bound = h; sums = omega (arith, p .sums, total-take ns i h); small = omega (arith, p .small, g) }
 
   pub all-added : length ns ≤ i → Sum ns m
   all-added h = p .sums ∙ ap total (take-all i ns h) ∙ ap (λ (b : Bool). cond b (total ns) 0) (sym (le-leb (length ns) 1024 (p .few)))

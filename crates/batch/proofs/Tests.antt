@@ -11,9 +11,8 @@ use Rattle.answer.specs.declared.Refusal.the-variants.{Size, MessageCount, Join
 use Rattle.answer.specs.Refuse.{isDone}
 use Rattle.answer.proofs.Refuse.{unless-done}
 use Rattle.memory.specs.Lists.{total}
-use Rattle.digest.specs.Kind.{knownSize, kindFor}
+use Rattle.digest.specs.Kind.{knownSize, kindFor, Known}
 use Rattle.batch.specs.Batch.{digestsLength, batchAnswer}
-use Rattle.batch.specs.Refusals.{Known}
 
 module _ (n joined : ℕ) (ns : List ℕ) (room : ℕ) where
   -- no refusal's condition holds

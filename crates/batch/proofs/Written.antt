@@ -9,8 +9,7 @@ use Rattle.answer.specs.declared.Answer.{Answer}
 use Rattle.answer.specs.declared.Answer.the-variants.{Done}
 use Rattle.answer.specs.Refuse.{outcome}
 use Rattle.memory.specs.Lists.{bytesAt}
-use Rattle.digest.specs.Kind.{kindFor}
-use Rattle.digest.specs.OneCall.{digestOf}
+use Rattle.digest.specs.OneCall.{digestFor}
 use Rattle.batch.specs.Batch.{messages, digests, digestsLength, batchAnswer, batchOut}
 use Rattle.batch.specs.Messages.{message}
 use Rattle.batch.specs.Written.{SuccessWrites}
@@ -34,11 +33,11 @@ module _ (n : ℕ) (s ns out : List ℕ) (a : Accepted n (length s) ns (length o
   size : length (batchOut n s ns out) ≡ length out
   size = ap length out-after ∙ length-append all (drop e out) ∙ omega (arith, all-length, length-drop e out, a .fits)
 
-  own : (k : ℕ) → k < length ns → bytesAt (n / 8) (batchOut n s ns out) (k * (n / 8)) ≡ digestOf (kindFor n) n (message s ns k)
+  own : (k : ℕ) → k < length ns → bytesAt (n / 8) (batchOut n s ns out) (k * (n / 8)) ≡ digestFor n (message s ns k)
   own k h =
       ap (λ (l : List ℕ). bytesAt (n / 8) l (k * (n / 8))) out-after
       ∙ digest-at n (a .known) (messages s ns) k (drop e out) (omega (arith, h, messages-count s ns))
-      ∙ ap (digestOf (kindFor n) n) (message-own s ns k h)
+      ∙ ap (digestFor n) (message-own s ns k h)
 
   behind : drop e (batchOut n s ns out) ≡ drop e out
   behind = ap (drop e) out-after ∙ drop-at all (drop e out) e all-length

@@ -9,17 +9,17 @@ use Rattle.answer.specs.declared.Refusal.the-variants.{Size, MessageCount, Join
 use Rattle.answer.specs.Refuse.{unless, outcome}
 use Rattle.memory.specs.Lists.{total}
 use Rattle.digest.specs.Kind.{knownSize, kindFor}
-use Rattle.digest.specs.OneCall.{digestOf}
+use Rattle.digest.specs.OneCall.{digestFor}
 
 -- the messages of the lengths ns in the joined bytes s: each is the part of its length behind the messages before it
 abbrev pub messages : List ℕ → List ℕ → List (List ℕ)
 messages s [] = []
 messages s (n ∷ ns) = take n s ∷ messages (drop n s) ns
 
--- their digests of size n, one behind the other; each is what the one call writes for its message
+-- their digests of size n, one behind the other, each by the definition of the one call
 abbrev pub digests : ℕ → List (List ℕ) → List ℕ
 digests n [] = []
-digests n (m ∷ ms) = digestOf (kindFor n) n m ++ digests n ms
+digests n (m ∷ ms) = digestFor n m ++ digests n ms
 
 -- how many bytes c digests of size n take
 abbrev pub digestsLength : ℕ → ℕ → ℕ

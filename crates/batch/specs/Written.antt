@@ -7,8 +7,7 @@ use lib.ListN.{length, drop}
 use Rattle.answer.specs.declared.Answer.the-variants.{Done}
 use Rattle.answer.specs.Refuse.{isDone}
 use Rattle.memory.specs.Lists.{bytesAt}
-use Rattle.digest.specs.Kind.{kindFor}
-use Rattle.digest.specs.OneCall.{digestOf}
+use Rattle.digest.specs.OneCall.{digestFor}
 use Rattle.batch.specs.Batch.{messages, digests, digestsLength, batchAnswer, batchOut}
 use Rattle.batch.specs.Messages.{message}
 
@@ -16,7 +15,7 @@ use Rattle.batch.specs.Messages.{message}
 -- bytes written, those of all digests
 pub record Written (n : ℕ) (s ns out : List ℕ) : Type 0 where
   pub size : length (batchOut n s ns out) ≡ length out
-  pub own : (k : ℕ) → k < length ns → bytesAt (n / 8) (batchOut n s ns out) (k * (n / 8)) ≡ digestOf (kindFor n) n (message s ns k)
+  pub own : (k : ℕ) → k < length ns → bytesAt (n / 8) (batchOut n s ns out) (k * (n / 8)) ≡ digestFor n (message s ns k)
   pub behind : drop (digestsLength n (length ns)) (batchOut n s ns out) ≡ drop (digestsLength n (length ns)) out
   pub count : batchAnswer n (length s) ns (length out) ≡ Done (length (digests n (messages s ns)))
 

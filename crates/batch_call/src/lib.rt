@@ -6,9 +6,8 @@ ghost use Prim.Native.Nat.{_≤_, _<_};
 ghost use lib.Dec.{leb};
 ghost use lib.ListN.{length, drop};
 ghost use Rattle.memory.specs.Lists.{total};
-ghost use Rattle.digest.specs.Kind.{knownSize, kindFor};
+ghost use Rattle.digest.specs.Kind.{knownSize, kindFor, Known};
 ghost use Rattle.batch.specs.Batch.{messages, digests, digestsLength, batchAnswer, batchOut};
-ghost use Rattle.batch.specs.Refusals.{Known};
 use answer::Answer;
 use answer::Refusal;
 

@@ -10,7 +10,7 @@ use Rattle.answer.specs.Refuse.{isDone}
 use Rattle.answer.proofs.Tests.{either, both-true}
 use Rattle.answer.proofs.Refuse.{unless-done}
 use Rattle.digest.specs.Refusals.{limit, isSize, inForm, feeding, delivering, finishing, digesting}
-use Rattle.digest.specs.Kind.{Kind, knownSize, narrowKind, wideKind, kindFor}
+use Rattle.digest.specs.Kind.{Kind, knownSize, narrowKind, wideKind, Known}
 
 -- a size is at most the larger of the two
 pub size-bound : (small large n most : ℕ) → small ≤ most → large ≤ most → isSize small large n ≡ true → n ≤ most
@@ -18,7 +18,7 @@ size-bound small large n most p q e =
     either (eqb n small) (eqb n large) (n ≤ most) e (λ h. rw (eqb-true n small h) p) (λ h. rw (eqb-true n large h) q)
 
 -- the four sizes are at most 512
-pub known-bound : (n : ℕ) → knownSize (kindFor n) n ≡ true → n ≤ 512
+pub known-bound : (n : ℕ) → Known n → n ≤ 512
 known-bound n = by (knownSize wideKind n)
   where
     by : (b : Bool) → knownSize (cond b wideKind narrowKind) n ≡ true → n ≤ 512

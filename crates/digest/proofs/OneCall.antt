@@ -9,8 +9,8 @@ use Rattle.answer.specs.declared.Answer.{Answer}
 use Rattle.answer.specs.declared.Answer.the-variants.{Done}
 use Rattle.answer.specs.Refuse.{outcome}
 use Rattle.digest.specs.Refusals.{limit}
-use Rattle.digest.specs.Kind.{knownSize, narrowKind, wideKind, kindFor}
-use Rattle.digest.specs.OneCall.{digestOf, digestAnswer, digestOut, oneCallAnswer, oneCallOut, FourSizes}
+use Rattle.digest.specs.Kind.{knownSize, narrowKind, wideKind, kindFor, Known}
+use Rattle.digest.specs.OneCall.{digestFor, digestAnswer, digestOut, oneCallAnswer, oneCallOut, FourSizes}
 
 -- what the call of one kind gives is what the one call gives, where the size's test came out so
 pub by-kind : (n : ℕ) (m out : List ℕ) (b : Bool) {a : Answer} {last : List ℕ} → knownSize wideKind n ≡ b
@@ -25,11 +25,11 @@ pub known-by-kind : (n : ℕ) (b : Bool) {t : Bool} → t ≡ knownSize wideKind
 known-by-kind n b e f = ap (λ (x : Bool). knownSize (cond x wideKind narrowKind) n) (sym f ∙ e)
 
 -- where nothing is refused
-pub one-call-writes : (n : ℕ) (m out : List ℕ) → knownSize (kindFor n) n ≡ true → length m ≤ limit → n / 8 ≤ length out
-    → (oneCallAnswer n m out ≡ Done (n / 8)) × (oneCallOut n m out ≡ digestOf (kindFor n) n m ++ drop (n / 8) out)
+pub one-call-writes : (n : ℕ) (m out : List ℕ) → Known n → length m ≤ limit → n / 8 ≤ length out
+    → (oneCallAnswer n m out ≡ Done (n / 8)) × (oneCallOut n m out ≡ digestFor n m ++ drop (n / 8) out)
 one-call-writes n m out e h g =
     let a : oneCallAnswer n m out ≡ Done (n / 8) = rw (e, le-leb (length m) limit h, le-leb (n / 8) (length out) g) refl in
-    (a, ap (λ (r : Answer). outcome r (digestOf (kindFor n) n m ++ drop (n / 8) out) out) a)
+    (a, ap (λ (r : Answer). outcome r (digestFor n m ++ drop (n / 8) out) out) a)
 
 pub four-sizes : FourSizes
 four-sizes = record { sizes = λ n. either n (knownSize wideKind n) refl }

@@ -1,5 +1,6 @@
 -- The two kinds of hash, narrow and wide (document 01, "The digest"; 001, Table 1.2): one definition over the width.
-use mathlib.Core.Bool.{Bool, cond}
+use mathlib.Core.Path.{_≡_}
+use mathlib.Core.Bool.{Bool, true, cond}
 use mathlib.Core.List.{List}
 use Prim.Native.Nat.{ℕ, _*_}
 use lib.Dec.{eqb}
@@ -47,3 +48,7 @@ knownSize k n = isSize (k .small) (k .large) n
 -- the kind of a size
 abbrev pub kindFor : ℕ → Kind
 kindFor n = cond (knownSize wideKind n) wideKind narrowKind
+
+-- n is one of the four sizes (`FourSizes`)
+abbrev pub Known : ℕ → Type 0
+Known n = knownSize (kindFor n) n ≡ true

@@ -6,7 +6,7 @@ use native.Mathlib.Numerals.{add-one}
 use native.Mathlib.Omega.{arith}
 use lib.ListN.{length, getD, set, take, drop, length-set}
 use lib.Seq.{sets}
-use Rattle.memory.proofs.Lists.{front}
+use Rattle.memory.proofs.Lists.{front, taken-short}
 use Rattle.memory.specs.Lists.{total}
 use Rattle.hamming.specs.Counts.{firstDigest, secondDigest, flippedBits, countsFrom, pairCount, flippedCounts}
 use Rattle.hamming.proofs.Metric.{distance-le}
@@ -22,11 +22,6 @@ counts-get s k (suc n) zero h = let e : k ≡ k + 0 = omega arith in ap (flipped
 counts-get s k (suc n) (suc j) h =
     let e : suc k + j ≡ k + suc j = omega arith in
     counts-get s (suc k) n j (omega arith) ∙ ap (flippedBits s) e
-
-taken-short : (n : ℕ) (s : List ℕ) → length (take n s) ≤ n
-taken-short zero s = omega arith
-taken-short (suc n) [] = omega arith
-taken-short (suc n) (a ∷ s) = omega (arith, taken-short n s)
 
 -- a digest has no more than 32 bytes
 pub flipped-le : (s : List ℕ) (k : ℕ) → flippedBits s k ≤ 256

@@ -5,3 +5,4 @@ pub mod Parts
 pub mod Copy
 pub mod Same
 pub mod Totals
+pub mod Placed

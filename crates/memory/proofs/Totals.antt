@@ -7,7 +7,7 @@ use lib.ListN.{length, getD, take, drop}
 use lib.Seq.{drop-cons}
 use Rattle.memory.specs.Lists.{total}
 
-pub total-cons : (x : ℕ) (l : List ℕ) → total (x ∷ l) ≡ x + total l
+total-cons : (x : ℕ) (l : List ℕ) → total (x ∷ l) ≡ x + total l
 unfolding sum
 total-cons x l = refl
 
@@ -23,5 +23,5 @@ pub total-next : (l : List ℕ) (k : ℕ) → k < length l → total (drop k l) 
 total-next l k h = ap total (drop-cons l k 0 h) ∙ total-cons (getD l k 0) (drop (suc k) l)
 
 -- before place k, and before the next one
-pub total-more : (l : List ℕ) (k : ℕ) → k < length l → total (take (suc k) l) ≡ total (take k l) + getD l k 0
-total-more l k h = omega (arith, total-parts l k, total-parts l (suc k), total-next l k h)
+pub total-take : (l : List ℕ) (k : ℕ) → k < length l → total (take (suc k) l) ≡ total (take k l) + getD l k 0
+total-take l k h = omega (arith, total-parts l k, total-parts l (suc k), total-next l k h)

@@ -3,7 +3,7 @@ use mathlib.Core.List.{List, sum}
 use Prim.Native.Nat.{ℕ, _+_}
 use lib.ListN.{take, drop}
 
--- the n bytes of s from place i on
+-- the n bytes of s from place i on, or those that are there if fewer
 abbrev pub bytesAt : ℕ → List ℕ → ℕ → List ℕ
 bytesAt n s i = take n (drop i s)
 

@@ -1,4 +1,4 @@
-// Copies of lent bytes. The definitions and laws of words in bytes stand here too, for every width.
+// Copies of lent bytes. The definitions and laws of words in bytes stand here too, for every width, and those of parts and sums of lists.
 ghost use mathlib.Core.Path.{_≡_};
 ghost use mathlib.Core.List.{_++_};
 ghost use Prim.Native.Nat.{_+_, _≤_};
