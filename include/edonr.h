@@ -139,7 +139,7 @@ uint64_t edonr_digest(uint32_t size, const uint8_t *message, size_t message_len,
                       uint8_t *out, size_t out_len);
 
 /*
- * The EDON-R digests of several messages of whole bytes, in one call. What it writes is
+ * The EDON-R digests of many messages of whole bytes, in one call. What a success writes is
  * what a call of edonr_digest for each message writes.
  *
  * The messages are lent joined, one behind the other with nothing in between. Message k, k
@@ -147,7 +147,8 @@ uint64_t edonr_digest(uint32_t size, const uint8_t *message, size_t message_len,
  * has a digest too.
  *
  * Reads    messages, messages_len bytes, and lengths, a list of 32-bit numbers: one for
- *          each message, at most EDONR_MESSAGES_MAX; none is fine. lengths_len is the
+ *          each message, at most EDONR_MESSAGES_MAX. None is fine: with an empty list
+ *          messages_len must be 0, else the call is refused with 13. lengths_len is the
  *          list's number of elements, not of bytes. size is each digest's length n in bits,
  *          as for edonr_digest.
  * Writes   on success the first lengths_len * n/8 bytes of out: digest k, which is the

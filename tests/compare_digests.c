@@ -1,5 +1,5 @@
 /*
- * The digests of several messages in one call by the archive against the reference, and
+ * The digests of many messages in one call by the archive against the reference, and
  * against the archive's own digests of the messages one by one.
  */
 #include <inttypes.h>
@@ -138,7 +138,7 @@ static void compare_counts(uint32_t size)
     }
 }
 
-/* One message of each length, by rising and by falling length, and several of one. */
+/* One message of each length, by rising and by falling length, and three of one. */
 static void compare_lengths(uint32_t size)
 {
     check_group("messages of 0 to %d bytes, size %" PRIu32, EVERY_LENGTH, size);
@@ -307,7 +307,8 @@ static const struct sum high_sums[] = {
     {4, {UINT32_MAX, UINT32_MAX, UINT32_MAX, 8}, 3 * AT_32 + 5},
 };
 
-/* Sums around 2^32 and above: themselves, cut off at 32 bits, and else off by 2^32. */
+/* Sums around 2^32 and above: themselves; and beside them, off by 1 and by 2^32, with bit
+   63, and cut off at 32 bits. */
 static void check_high_sum(uint32_t size, size_t count, uint64_t sum)
 {
     check_sum(size, count, sum);
@@ -357,8 +358,9 @@ static size_t random_out_len(size_t len)
     }
 }
 
-/* Mostly all is right but for the output's length. A joined length over what is lent is
-   none of these sums, and so is refused. */
+/* Mostly all is right; else the output is too short, the size or the joined length is off,
+   or there are too many messages. A joined length over what is lent is none of these sums,
+   and so is refused. */
 static void compare_random(void)
 {
     static uint8_t written[DIGESTS_CALL_OUT];
@@ -374,7 +376,7 @@ static void compare_random(void)
         if (random_below(8) == 0)
             d.messages_len = (size_t)random_near(d.messages_len);
         uint64_t got = check_digests_call(&d, written);
-        if (!is_refusal(got) && d.size == size)
+        if (!is_refusal(got))
             check_one_by_one(&d, written);
     }
 }
@@ -408,8 +410,6 @@ static void compare_nonsense_sizes(void)
     for (unsigned i = 0; i < 4; i++) {
         for (unsigned bit = 0; bit < 32; bit++)
             check_nonsense_size(sizes[i] ^ 1u << bit);
-        check_nonsense_size(sizes[i] / 8);
-        check_nonsense_size((1u << 16) + sizes[i]);
         check_nonsense_size(0u - sizes[i]);
     }
     check_nonsense_size(UINT32_MAX);
@@ -533,7 +533,8 @@ static const struct point points[] = {
     {"two messages and one digest", 256, 2, 3, 6, 32, REFUSED(4)},
     {"the most messages, one byte short", 512, 1024, 16, 16384, 65535, REFUSED(4)},
     {"the most messages and one digest", 384, 1024, 16, 16384, 48, REFUSED(4)},
-    {"2^32 - 1 bytes and no output", 256, 1, UINT32_MAX, AT_32 - 1, 31, REFUSED(4)},
+    {"2^32 - 1 bytes and an output one byte short", 256, 1, UINT32_MAX, AT_32 - 1, 31,
+     REFUSED(4)},
     {"no messages and a byte", 256, 0, 0, 1, 100, REFUSED(13)},
     {"no messages, a byte and no output", 256, 0, 0, 1, 0, REFUSED(13)},
     {"an empty message and a byte", 224, 1, 0, 1, 28, REFUSED(13)},

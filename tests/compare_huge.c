@@ -259,13 +259,13 @@ static void compare_joined(void)
     check_out("digests", 512, got, want);
 }
 
-/* A list of just over 2^32 lengths, all of them 0. It is never touched: cut off at 32 bits
-   its length would be one that is accepted. */
+/* A list of just over 2^32 lengths, none of which can be read: it is refused unread. Cut
+   off at 32 bits its length would be one that is accepted. */
 static void compare_long_list(void)
 {
     size_t over = (size_t)random_below(EDONR_MESSAGES_MAX), count = (size_t)AT_32 + over;
     check_group("a list of %zu lengths", count);
-    void *list = mmap(NULL, count * sizeof(uint32_t), PROT_READ,
+    void *list = mmap(NULL, count * sizeof(uint32_t), PROT_NONE,
                       MAP_PRIVATE | MAP_ANONYMOUS | MAP_NORESERVE, -1, 0);
     stop_unless(list != MAP_FAILED);
     for (unsigned i = 0; i < 4; i++) {

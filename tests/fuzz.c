@@ -32,7 +32,7 @@ enum {
     DEFAULT_ROUNDS = 1000000,
     MOST_MESSAGE = 1 << 16,
     MOST_OUT = 200,
-    MOST_FUZZED = 16, /* records */
+    MOST_FUZZED = 16, /* records or messages */
     CALLS = 21
 };
 

@@ -1,5 +1,5 @@
 /*
- * One call of the digests of several messages, made to the archive and to the reference.
+ * One call of the digests of many messages, made to the archive and to the reference.
  */
 #ifndef HARNESS_DIGESTS_CALL_H
 #define HARNESS_DIGESTS_CALL_H

@@ -1,5 +1,5 @@
 /*
- * The digests of several messages in one call: what edonr_digests does, written
+ * The digests of many messages in one call: what edonr_digests does, written
  * independently, from document 02, Paper 2.
  */
 #ifndef REFERENCE_DIGESTS_H

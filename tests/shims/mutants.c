@@ -921,7 +921,7 @@ uint64_t WRAP(digest)(uint32_t size, const uint8_t *message, size_t message_len,
     return answer;
 }
 
-/* ---------------- digests of several messages ---------------- */
+/* ---------------- digests of many messages ---------------- */
 
 #define DIGESTS(name)                                                                      \
     uint64_t name(uint32_t size, const uint8_t *messages, size_t messages_len,             \
