@@ -2,8 +2,8 @@ use native.Mathlib.Omega.{arith}
 use borrow.Author.Needs.{needs}
 use denote.Ref.{now}
 use Rattle.batch.proofs.Ended.{ends-unknown, ends-many, few-bytes, ends-other, ends-short, ends-room}
-use Rattle.batch_call.proofs.answer_for.Statement.{statement}
-use Rattle.batch_call.proofs.answer_for.Tie as tie
+use Rattle.batch_check.proofs.answer_for.Statement.{statement}
+use Rattle.batch_check.proofs.answer_for.Tie as tie
 
 returns : tie.Need-returns
 returns c =

@@ -4,8 +4,8 @@ use borrow.Author.Needs.{needs}
 use denote.Ref.{now}
 use lib.ListN.{length}
 use Rattle.batch.proofs.Sums.{Added, none-added, one-added, all-added, not-added}
-use Rattle.batch_call.proofs.total_length.Statement.{statement}
-use Rattle.batch_call.proofs.total_length.Tie as tie
+use Rattle.batch_check.proofs.total_length.Statement.{statement}
+use Rattle.batch_check.proofs.total_length.Tie as tie
 
 abbrev Inv-loop : tie.InvT-loop
 Inv-loop lengths sum₀ i₀ sum i = Added lengths i sum
