@@ -9,7 +9,7 @@ use Rattle.answer.specs.declared.Answer.{Answer}
 use Rattle.answer.specs.declared.Answer.the-variants.{Done, Refused}
 use Rattle.answer.specs.declared.Refusal.{Refusal}
 use Rattle.answer.specs.declared.Refusal.the-variants.{Size, State, Length, Output, Width, Operand, Sheet, Opcode, Truncated, Place, SamePlace}
-use Rattle.answer.specs.declared.Refusal.the-variants.{MessageCount, JoinedLength, Start, Records, RecordCount, Pairs}
+use Rattle.answer.specs.declared.Refusal.the-variants.{MessageCount, JoinedLength, Start, BitCount, Records, RecordCount, Pairs}
 use Rattle.answer.specs.Number.{refusalNumber, numberOf, markedNumber}
 use Rattle.answer.specs.Refuse.{unless, isDone}
 use Rattle.answer.proofs.Refuse.{unless-cases}
@@ -32,8 +32,9 @@ refusalOf n =
     (cond (eqb n 12) MessageCount
     (cond (eqb n 13) JoinedLength
     (cond (eqb n 14) Start
+    (cond (eqb n 15) BitCount
     (cond (eqb n 16) Records
-    (cond (eqb n 17) RecordCount Pairs)))))))))))))))
+    (cond (eqb n 17) RecordCount Pairs))))))))))))))))
 
 found : (r : Refusal) → refusalOf (refusalNumber r) ≡ r
 found Size = refl
@@ -50,6 +51,7 @@ found SamePlace = refl
 found MessageCount = refl
 found JoinedLength = refl
 found Start = refl
+found BitCount = refl
 found Records = refl
 found RecordCount = refl
 found Pairs = refl
@@ -72,6 +74,7 @@ positive SamePlace = lit≤ tt
 positive MessageCount = lit≤ tt
 positive JoinedLength = lit≤ tt
 positive Start = lit≤ tt
+positive BitCount = lit≤ tt
 positive Records = lit≤ tt
 positive RecordCount = lit≤ tt
 positive Pairs = lit≤ tt

@@ -1,11 +1,11 @@
--- Document 01, "What each operation refuses", and for 12 and 13, 14, 16, 17 and 19 document 02, Papers 2, 5, 13, 10 and 14: the number of each refusal, and
--- an answer as one number for C.
+-- Document 01, "What each operation refuses", and for 12 and 13, 14, 15, 16, 17 and 19 document 02, Papers 2, 5, 7, 13, 10 and 14: the number of each refusal,
+-- and an answer as one number for C.
 use Prim.Native.Nat.{ℕ, _+_, _*_, _^_}
 use Rattle.answer.specs.declared.Answer.{Answer}
 use Rattle.answer.specs.declared.Answer.the-variants.{Done, Refused}
 use Rattle.answer.specs.declared.Refusal.{Refusal}
 use Rattle.answer.specs.declared.Refusal.the-variants.{Size, State, Length, Output, Width, Operand, Sheet, Opcode, Truncated, Place, SamePlace}
-use Rattle.answer.specs.declared.Refusal.the-variants.{MessageCount, JoinedLength, Start, Records, RecordCount, Pairs}
+use Rattle.answer.specs.declared.Refusal.the-variants.{MessageCount, JoinedLength, Start, BitCount, Records, RecordCount, Pairs}
 
 abbrev pub refusalNumber : Refusal → ℕ
 refusalNumber Size = 1
@@ -22,6 +22,7 @@ refusalNumber SamePlace = 11
 refusalNumber MessageCount = 12
 refusalNumber JoinedLength = 13
 refusalNumber Start = 14
+refusalNumber BitCount = 15
 refusalNumber Records = 16
 refusalNumber RecordCount = 17
 refusalNumber Pairs = 19

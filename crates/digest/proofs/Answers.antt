@@ -5,11 +5,11 @@ use Prim.Native.Nat.{ℕ, _+_, _*_, _/_, _^_, _≤_, _<_}
 use native.Mathlib.Omega.{arith}
 use borrow.Author.Tests.{eqb-true, leb-true}
 use lib.Dec.{eqb, leb, lit≤}
-use Rattle.answer.specs.declared.Refusal.the-variants.{Size, State, Length, Output}
+use Rattle.answer.specs.declared.Refusal.the-variants.{Size, State, Length, Output, BitCount}
 use Rattle.answer.specs.Refuse.{isDone}
 use Rattle.answer.proofs.Tests.{either, both-true}
 use Rattle.answer.proofs.Refuse.{unless-done}
-use Rattle.digest.specs.Refusals.{limit, isSize, inForm, feeding, delivering, finishing, digesting}
+use Rattle.digest.specs.Refusals.{limit, isSize, inForm, feeding, delivering, finishingBits, digesting}
 use Rattle.digest.specs.Kind.{Kind, knownSize, narrowKind, wideKind, Known}
 
 -- a size is at most the larger of the two
@@ -40,31 +40,36 @@ narrow-sized = record { pos = lit≤ tt; small = lit≤ tt; large = lit≤ tt }
 pub wide-sized : Sized wideKind
 wide-sized = record { pos = lit≤ tt; small = lit≤ tt; large = lit≤ tt }
 
--- where a digest of n bits, of `total` bytes, is written: the length in bits fits in 64, and the digest in a vector and in `room` bytes
-pub record Writable (k : Kind) (n total room : ℕ) : Type 0 where
-  pub bits : 8 * total < 2 ^ 64
+-- where a digest of n bits, of a message of l bits, is written: l fits in 64 bits, and the digest in a vector and in `room` bytes
+pub record Writable (k : Kind) (n l room : ℕ) : Type 0 where
+  pub bits : l < 2 ^ 64
   pub vector : n / 8 ≤ k .block / 2
   pub out : n / 8 ≤ room
 
 module _ {k : Kind} (is : Sized k) (n : ℕ) where
-  delivered : (total room : ℕ) → knownSize k n ≡ true → total ≤ limit → isDone (delivering n room) ≡ true → Writable k n total room
-  delivered total room e l d =
-      let b = size-bound (k .small) (k .large) n (4 * k .block) (is .small) (is .large) e in
-      record { bits = omega arith; vector = omega arith; out = leb-true _ _ (unless-done (leb (n / 8) room) Output _ d .0) }
+  delivered : (l room : ℕ) → knownSize k n ≡ true → l < 2 ^ 64 → isDone (delivering n room) ≡ true → Writable k n l room
+  delivered l room e b d =
+      let m = size-bound (k .small) (k .large) n (4 * k .block) (is .small) (is .large) e in
+      record { bits = b; vector = omega arith; out = leb-true _ _ (unless-done (leb (n / 8) room) Output _ d .0) }
 
   pub feeding-done : (total len : ℕ) → isDone (feeding (k .small) (k .large) n total len) ≡ true → total + len ≤ limit
   feeding-done total len d =
       let x = unless-done (inForm (k .small) (k .large) n total) State _ d in
       leb-true _ _ (unless-done (leb (total + len) limit) Length _ (x .1) .0)
 
-  pub finishing-done : (total room : ℕ) → isDone (finishing (k .small) (k .large) n total room) ≡ true → Writable k n total room
-  finishing-done total room d =
+  pub finishing-done : (total count room : ℕ) → isDone (finishingBits (k .small) (k .large) n total count room) ≡ true
+      → (count ≤ 7) × Writable k n (8 * total + count) room
+  finishing-done total count room d =
       let x = unless-done (inForm (k .small) (k .large) n total) State _ d in
+      let y = unless-done (leb count 7) BitCount _ (x .1) in
+      let c : count ≤ 7 = leb-true _ _ (y .0) in
       let b = both-true (knownSize k n) (leb total limit) (x .0) in
-      delivered total room (b .0) (leb-true _ _ (b .1)) (x .1)
+      let t : total ≤ limit = leb-true _ _ (b .1) in
+      (c, delivered (8 * total + count) room (b .0) (omega arith) (y .1))
 
-  pub digesting-done : (len room : ℕ) → isDone (digesting (k .small) (k .large) n len room) ≡ true → Writable k n len room
+  pub digesting-done : (len room : ℕ) → isDone (digesting (k .small) (k .large) n len room) ≡ true → Writable k n (8 * len) room
   digesting-done len room d =
       let x = unless-done (knownSize k n) Size _ d in
       let y = unless-done (leb len limit) Length _ (x .1) in
-      delivered len room (x .0) (leb-true _ _ (y .0)) (y .1)
+      let l : len ≤ limit = leb-true _ _ (y .0) in
+      delivered (8 * len) room (x .0) (omega arith) (y .1)

@@ -1,6 +1,6 @@
 -- Each way an operation returns, from what the code's parts give: its answer and what it leaves are the definition's. For any kind.
 -- Code asks for its answer a and whether that is a success, t; it returns where `!t` holds. Where it goes on, what it then knows is a record.
-use mathlib.Core.Path.{_≡_, ap, sym, _∙_}
+use mathlib.Core.Path.{_≡_, ap, ap₂, sym, _∙_}
 use mathlib.Core.Bool.{Bool, true, false, not}
 use mathlib.Core.List.{List, _++_}
 use Prim.Native.Nat.{ℕ, _+_, _-_, _*_, _/_, _%_, _^_, _≤_, _<_}
@@ -11,12 +11,12 @@ use Rattle.answer.specs.declared.Answer.{Answer}
 use Rattle.answer.specs.Refuse.{isDone}
 use Rattle.answer.proofs.Tests.{goes-on, stops}
 use Rattle.answer.proofs.Refuse.{refused-outcome, done-outcome}
-use Rattle.digest.specs.Padding.{padding, ending}
+use Rattle.digest.specs.Padding.{padding, ending, marked}
 use Rattle.digest.specs.Blocks.{compressed, rest, filled}
 use Rattle.digest.specs.Pipe.{Pipe}
 use Rattle.digest.specs.Kind.{Kind}
 use Rattle.digest.specs.State.{Hash, pending, opened, zeros, openAnswer, openState, advanced, feedAnswer, feedState}
-use Rattle.digest.specs.State.{closed, cut, finished, finishAnswer, finishOut}
+use Rattle.digest.specs.State.{closed, cut, finishedBits, finishBitsAnswer, finishBitsOut}
 use Rattle.digest.specs.OneCall.{digestOf, digestAnswer, digestOut}
 use Rattle.digest.specs.Waiting.{Held}
 use Rattle.digest.proofs.Blocks.{length-rest, compressed-twice}
@@ -39,16 +39,17 @@ pub record Feeding (k : Kind) (h : Hash) (s : List ℕ) : Type 0 where
       → (q ≡ compressed (k .block) (k .step) (h .pipe) (pending k h ++ s)) × (w ≡ filled (k .block) (rest (k .block) (pending k h ++ s)))
       → record { size = h .size; pipe = q; waiting = w; total = h .total + length s } ≡ feedState k h s
 
-pub record Finishing (k : Kind) (h : Hash) (out : List ℕ) : Type 0 where
+pub record Finishing (k : Kind) (h : Hash) (last count : ℕ) (out : List ℕ) : Type 0 where
   pub waits : Pending k h
-  pub fits : Writable k (h .size) (h .total) (length out)
-  pub written : {r : Pipe} {last : List ℕ}
-      → r ≡ closed k (h .pipe) (pending k h) (length (pending k h)) 0x80 (8 * h .total) → last ≡ cut k (h .size) r ++ drop (h .size / 8) out
-      → last ≡ finishOut k h out
+  pub few : count ≤ 7
+  pub fits : Writable k (h .size) (8 * h .total + count) (length out)
+  pub written : {mark bits : ℕ} {r : Pipe} {left : List ℕ} → mark ≡ marked last count → bits ≡ 8 * h .total + count
+      → r ≡ closed k (h .pipe) (pending k h) (length (pending k h)) mark bits → left ≡ cut k (h .size) r ++ drop (h .size / 8) out
+      → left ≡ finishBitsOut k h last count out
 
 -- p is the starting pipe, q that behind all whole blocks of m, r that closed with what is left of m
 pub record Digesting (k : Kind) (n : ℕ) (m out : List ℕ) : Type 0 where
-  pub fits : Writable k n (length m) (length out)
+  pub fits : Writable k n (8 * length m) (length out)
   pub written : {p q r : Pipe} {last : List ℕ} → p ≡ k .start n → q ≡ compressed (k .block) (k .step) p m
       → (let w = take (length m - length m / k .block * k .block) (drop (length m / k .block * k .block) m) in
       r ≡ closed k q w (length w) 0x80 (8 * length m))
@@ -113,19 +114,23 @@ module _ {k : Kind} (is : Sized k) where
         }
 
   -- ---- finishing
-  module _ (h : Hash) (out : List ℕ) {a : Answer} {t : Bool} (e : a ≡ finishAnswer k h out) (d : t ≡ isDone a) where
-    pub finish-refused : not t ≡ true → (a ≡ finishAnswer k h out) × (out ≡ finishOut k h out)
-    finish-refused f = (e, refused-outcome (finishAnswer k h out) (finished k h ++ drop (h .size / 8) out) out (refused e d f))
+  module _ (h : Hash) (last count : ℕ) (out : List ℕ) {a : Answer} {t : Bool} (e : a ≡ finishBitsAnswer k h count out) (d : t ≡ isDone a) where
+    pub finish-refused : not t ≡ true → (a ≡ finishBitsAnswer k h count out) × (out ≡ finishBitsOut k h last count out)
+    finish-refused f =
+        (e, refused-outcome (finishBitsAnswer k h count out) (finishedBits k h last count ++ drop (h .size / 8) out) out (refused e d f))
 
-    pub finish-goes : Held k h → not t ≡ false → Finishing k h out
+    pub finish-goes : Held k h → not t ≡ false → Finishing k h last count out
     finish-goes held f =
+        let x = finishing-done is (h .size) (h .total) count (length out) (accepted e d f) in
         record {
           waits = waiting h held;
-          fits = finishing-done is (h .size) (h .total) (length out) (accepted e d f);
-          written = λ er el. el
+          few = x .0;
+          fits = x .1;
+          written = λ {mark} {bits} em eb er el. el
               ∙ ap (λ (x : Pipe). cut k (h .size) x ++ drop (h .size / 8) out)
-              (er ∙ closed-waiting (h .pipe) (pending k h) (h .total) 0x80 (8 * h .total) (pending-length h held))
-              ∙ done-outcome (finishAnswer k h out) (finished k h ++ drop (h .size / 8) out) out (accepted e d f);
+              (er ∙ closed-waiting (h .pipe) (pending k h) (h .total) mark bits (pending-length h held)
+              ∙ ap₂ {C = Pipe} (λ m b. closed k (h .pipe) (pending k h) (h .total) m b) em eb)
+              ∙ done-outcome (finishBitsAnswer k h count out) (finishedBits k h last count ++ drop (h .size / 8) out) out (accepted e d f);
         }
 
   -- ---- the digest in one call

@@ -8,7 +8,7 @@ use lib.Dec.{leb, lit≤}
 use lib.ListN.{length}
 use mathlib.Core.Path.{_≡_}
 use Rattle.answer.specs.declared.Answer.the-variants.{Done}
-use Rattle.answer.specs.declared.Refusal.the-variants.{Size, State, Length, Output}
+use Rattle.answer.specs.declared.Refusal.the-variants.{Size, State, Length, Output, BitCount}
 use Rattle.answer.specs.Injective.{Fits}
 use Rattle.answer.proofs.Injective.{fits-unless}
 use Rattle.digest.specs.Refusals.{limit, isSize, delivering}
@@ -40,6 +40,9 @@ module _ (k : Kind) (p : k .small ≤ 512) (q : k .large ≤ 512) where
             let l : h .total + length s ≤ limit = leb-true (h .total + length s) limit e in omega arith));
         finishing = λ h out. fits-unless (2 ^ 32) (formed k h) State _ (λ e.
             delivering-fits (h .size) out (both-true (isSize (k .small) (k .large) (h .size)) (leb (h .total) limit) e .0));
+        finishingBits = λ h count out. fits-unless (2 ^ 32) (formed k h) State _ (λ e.
+            fits-unless (2 ^ 32) (leb count 7) BitCount _ (λ _.
+            delivering-fits (h .size) out (both-true (isSize (k .small) (k .large) (h .size)) (leb (h .total) limit) e .0)));
       }
 
 either-fits : (b : Bool) (n : ℕ) (m out : List ℕ) → Fits (2 ^ 32) (digestAnswer (cond b wideKind narrowKind) n m out)

@@ -1,7 +1,12 @@
+pub mod Bits
 pub mod Blocks
 pub mod Padding
+pub mod BitPadding
 pub mod Feeding
+pub mod Opened
 pub mod Cutting
+pub mod BitFinishing
+pub mod BitStrings
 pub mod Waiting
 pub mod Form
 pub mod Buffer

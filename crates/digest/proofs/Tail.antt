@@ -38,12 +38,12 @@ module _ (B N : ℕ) (w : List ℕ) (m bits : ℕ) (big : 9 ≤ B) (short : leng
   -- in one block
   pub tail-one : {b c : List ℕ} → b ≡ filled N (w ++ m ∷ []) → length w + 9 ≤ B → c ≡ sets b (B - 8) (bytes 8 bits) → take B c ≡ w ++ ending B (length w) m bits
   tail-one is h e =
-      let g = gap-near B big (length w) (rw small h) in
-      placed N w m (bytes 8 bits) refl B (gap B (length w)) (ap (λ (j : ℕ). gap B (length w) + (j + 9)) (sym small) ∙ g) (omega arith) is e
+      let g = gap-near B 8 big (length w) (omega (arith, small)) in
+      placed N w m (bytes 8 bits) refl B (gap B 8 (length w)) (omega (arith, small)) (omega arith) is e
 
   -- in two
   pub tail-two : {b c : List ℕ} → b ≡ filled N (w ++ m ∷ []) → B < length w + 9 → c ≡ sets b (B + B - 8) (bytes 8 bits)
       → take (B + B) c ≡ w ++ ending B (length w) m bits
   tail-two is h e =
-      let g = gap-far B big (length w) (rw small h) in
-      placed N w m (bytes 8 bits) refl (B + B) (gap B (length w)) (ap (λ (j : ℕ). gap B (length w) + (j + 9)) (sym small) ∙ g) room is e
+      let g = gap-far B 8 big (length w) (omega (arith, small)) in
+      placed N w m (bytes 8 bits) refl (B + B) (gap B 8 (length w)) (omega (arith, small)) room is e

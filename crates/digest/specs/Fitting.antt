@@ -4,7 +4,7 @@ use mathlib.Core.List.{List}
 use Prim.Native.Nat.{ℕ, _^_}
 use Rattle.answer.specs.Injective.{Fits}
 use Rattle.digest.specs.Kind.{Kind}
-use Rattle.digest.specs.State.{Hash, openAnswer, feedAnswer, finishAnswer}
+use Rattle.digest.specs.State.{Hash, openAnswer, feedAnswer, finishAnswer, finishBitsAnswer}
 use Rattle.digest.specs.OneCall.{oneCallAnswer}
 
 abbrev pub OneCallFits : Type 0
@@ -15,3 +15,4 @@ pub record PiecesFit (k : Kind) : Type 0 where
   pub opening : (n : ℕ) → Fits (2 ^ 32) (openAnswer k n)
   pub feeding : (h : Hash) (s : List ℕ) → Fits (2 ^ 63) (feedAnswer k h s)
   pub finishing : (h : Hash) (out : List ℕ) → Fits (2 ^ 32) (finishAnswer k h out)
+  pub finishingBits : (h : Hash) (count : ℕ) (out : List ℕ) → Fits (2 ^ 32) (finishBitsAnswer k h count out)

@@ -1,4 +1,6 @@
+pub mod Bits
 pub mod Padding
+pub mod BitPadding
 pub mod Blocks
 pub mod Pipe
 pub mod Start
@@ -7,7 +9,10 @@ pub mod Refusals
 pub mod Kind
 pub mod State
 pub mod OneCall
+pub mod BitDigest
 pub mod Cutting
+pub mod BitFinishing
+pub mod BitStrings
 pub mod Waiting
 pub mod Form
 pub mod Fitting

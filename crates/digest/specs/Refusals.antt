@@ -1,11 +1,11 @@
--- Document 01, "What each operation refuses", for the operations of a hash: by numbers alone, each refusal in its order.
+-- Document 01, "What each operation refuses", and document 02, Paper 7, for the operations of a hash: by numbers alone, each refusal in its order.
 use mathlib.Core.Bool.{Bool, _||_, _&&_}
 use Prim.Native.Nat.{ℕ, _+_, _-_, _/_, _^_}
 use lib.Dec.{eqb, leb}
 use Rattle.answer.specs.declared.Answer.{Answer}
 use Rattle.answer.specs.declared.Answer.the-variants.{Done}
 use Rattle.answer.specs.Refuse.{unless}
-use Rattle.answer.specs.declared.Refusal.the-variants.{Size, State, Length, Output}
+use Rattle.answer.specs.declared.Refusal.the-variants.{Size, State, Length, Output, BitCount}
 
 -- the largest total of bytes, whose length in bits still fits in 64
 abbrev pub limit : ℕ
@@ -35,6 +35,15 @@ delivering n room = unless (leb (n / 8) room) Output (Done (n / 8))
 abbrev pub finishing : ℕ → ℕ → ℕ → ℕ → ℕ → Answer
 finishing small large n total room = unless (inForm small large n total) State (delivering n room)
 
+-- finishing with count bits of a last byte
+abbrev pub finishingBits : ℕ → ℕ → ℕ → ℕ → ℕ → ℕ → Answer
+finishingBits small large n total count room = unless (inForm small large n total) State (unless (leb count 7) BitCount (delivering n room))
+
 -- the digest of len bytes in one call
 abbrev pub digesting : ℕ → ℕ → ℕ → ℕ → ℕ → Answer
 digesting small large n len room = unless (isSize small large n) Size (unless (leb len limit) Length (delivering n room))
+
+-- the digest of len bytes and count bits
+abbrev pub digestingBits : ℕ → ℕ → ℕ → ℕ → ℕ → ℕ → Answer
+digestingBits small large n len count room =
+    unless (isSize small large n) Size (unless (leb len limit) Length (unless (leb count 7) BitCount (delivering n room)))

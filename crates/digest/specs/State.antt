@@ -1,14 +1,15 @@
--- A hash in progress (document 01, "The digest"): opening, feeding and finishing, what each answers and leaves, for any kind and any state.
+-- A hash in progress (document 01, "The digest", and for a message that ends inside a byte document 02, Paper 7): opening, feeding and finishing, what each
+-- answers and leaves, for any kind and any state.
 use mathlib.Core.Bool.{Bool}
 use mathlib.Core.List.{List, [], _∷_, _++_}
 use Prim.Native.Nat.{ℕ, _+_, _*_, _/_, _%_}
 use lib.ListN.{length, take, drop, replicate}
 use Rattle.answer.specs.declared.Answer.{Answer}
-use Rattle.digest.specs.Padding.{ending}
+use Rattle.digest.specs.Padding.{ending, marked}
 use Rattle.digest.specs.Blocks.{compressed, rest, filled, lastBytes}
 use Rattle.digest.specs.Pipe.{Pipe}
 use Rattle.answer.specs.Refuse.{outcome}
-use Rattle.digest.specs.Refusals.{inForm, opening, feeding, finishing}
+use Rattle.digest.specs.Refusals.{inForm, opening, feeding, finishing, finishingBits}
 use Rattle.digest.specs.Kind.{Kind}
 
 -- `waiting` has room for a block; how many of its bytes wait is the total modulo the block length
@@ -90,3 +91,14 @@ module _ (k : Kind) where
   -- the output afterwards: the digest, and then what stood behind it
   abbrev pub finishOut : Hash → List ℕ → List ℕ
   finishOut h out = outcome (finishAnswer h out) (finished h ++ drop (h .size / 8) out) out
+
+  -- ---- finishing with the count highest bits of a last byte behind the bytes that were fed
+
+  abbrev pub finishedBits : Hash → ℕ → ℕ → List ℕ
+  finishedBits h last count = cut (h .size) (closed (h .pipe) (pending h) (h .total) (marked last count) (8 * h .total + count))
+
+  abbrev pub finishBitsAnswer : Hash → ℕ → List ℕ → Answer
+  finishBitsAnswer h count out = finishingBits (k .small) (k .large) (h .size) (h .total) count (length out)
+
+  abbrev pub finishBitsOut : Hash → ℕ → ℕ → List ℕ → List ℕ
+  finishBitsOut h last count out = outcome (finishBitsAnswer h count out) (finishedBits h last count ++ drop (h .size / 8) out) out

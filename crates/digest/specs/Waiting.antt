@@ -5,7 +5,7 @@ use mathlib.Core.List.{List}
 use Prim.Native.Nat.{ℕ, _-_, _%_}
 use lib.ListN.{length, take, drop, replicate}
 use Rattle.digest.specs.Kind.{Kind}
-use Rattle.digest.specs.State.{Hash, opened, advanced, feedAnswer, finishAnswer, finishOut}
+use Rattle.digest.specs.State.{Hash, opened, advanced, feedAnswer, finishAnswer, finishOut, finishBitsAnswer, finishBitsOut}
 
 abbrev pub Held : Kind → Hash → Type 0
 Held k h = length (h .waiting) ≡ k .block
@@ -28,3 +28,5 @@ pub record Waiting (k : Kind) : Type 0 where
   pub fedAlike : (g h : Hash) → Alike k g h → (s : List ℕ) → (feedAnswer k g s ≡ feedAnswer k h s) × (advanced k g s ≡ advanced k h s)
   pub finishedAlike : (g h : Hash) → Alike k g h → (out : List ℕ)
       → (finishAnswer k g out ≡ finishAnswer k h out) × (finishOut k g out ≡ finishOut k h out)
+  pub bitsAlike : (g h : Hash) → Alike k g h → (last count : ℕ) (out : List ℕ)
+      → (finishBitsAnswer k g count out ≡ finishBitsAnswer k h count out) × (finishBitsOut k g last count out ≡ finishBitsOut k h last count out)

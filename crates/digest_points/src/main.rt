@@ -185,15 +185,42 @@ fn narrow_points() {
     );
     say_answer(
         b"narrow, size 256, finished into 32 bytes",
-        narrow::finish(full, &mut out),
+        narrow::finish(full, 0, 0, &mut out),
     );
     say_answer(
         b"narrow, size 256, finished into 31 bytes",
-        narrow::finish(full, &mut short),
+        narrow::finish(full, 0, 0, &mut short),
     );
     say_answer(
         b"narrow, size 384, finished into 31 bytes",
-        narrow::finish(narrow_state(384, 0), &mut short),
+        narrow::finish(narrow_state(384, 0), 0, 0, &mut short),
+    );
+}
+
+// A message that ends inside a byte: the largest total, and the refusals in their order.
+fn narrow_bit_points() {
+    let mut out = [0u8; 32];
+    let mut short = [0u8; 31];
+    let full = narrow_state(256, LIMIT);
+    say_answer(
+        b"narrow, total 2^61 - 1, finished with 7 bits",
+        narrow::finish(full, 255, 7, &mut out),
+    );
+    say_answer(
+        b"narrow, finished with 8 bits",
+        narrow::finish(full, 255, 8, &mut out),
+    );
+    say_answer(
+        b"narrow, finished with 8 bits into 31 bytes",
+        narrow::finish(full, 255, 8, &mut short),
+    );
+    say_answer(
+        b"narrow, finished with 7 bits into 31 bytes",
+        narrow::finish(full, 255, 7, &mut short),
+    );
+    say_answer(
+        b"narrow, size 384, finished with 8 bits",
+        narrow::finish(narrow_state(384, 0), 255, 8, &mut short),
     );
 }
 
@@ -209,10 +236,10 @@ fn narrow_cut(message: &[u8], at: usize) -> u64
     let opened = o.state;
     let f = narrow::feed(opened, &message[..at]);
     let first = f.state;
-    narrow::finish(first, &mut out);
+    narrow::finish(first, 0, 0, &mut out);
     let g = narrow::feed(first, &message[at..]);
     let second = g.state;
-    narrow::finish(second, &mut out);
+    narrow::finish(second, 0, 0, &mut out);
     if check::same(&whole, &out) {
         return 1;
     }
@@ -272,15 +299,42 @@ fn wide_points() {
     wide_feeding(b"wide, size 256, fed one byte", wide_state(256, 0), b"a");
     say_answer(
         b"wide, size 512, finished into 64 bytes",
-        wide::finish(full, &mut out),
+        wide::finish(full, 0, 0, &mut out),
     );
     say_answer(
         b"wide, size 512, finished into 63 bytes",
-        wide::finish(full, &mut short),
+        wide::finish(full, 0, 0, &mut short),
     );
     say_answer(
         b"wide, size 256, finished into 63 bytes",
-        wide::finish(wide_state(256, 0), &mut short),
+        wide::finish(wide_state(256, 0), 0, 0, &mut short),
+    );
+}
+
+// A message that ends inside a byte: the largest total, and the refusals in their order.
+fn wide_bit_points() {
+    let mut out = [0u8; 64];
+    let mut short = [0u8; 63];
+    let full = wide_state(512, LIMIT);
+    say_answer(
+        b"wide, total 2^61 - 1, finished with 7 bits",
+        wide::finish(full, 255, 7, &mut out),
+    );
+    say_answer(
+        b"wide, finished with 8 bits",
+        wide::finish(full, 255, 8, &mut out),
+    );
+    say_answer(
+        b"wide, finished with 8 bits into 63 bytes",
+        wide::finish(full, 255, 8, &mut short),
+    );
+    say_answer(
+        b"wide, finished with 7 bits into 63 bytes",
+        wide::finish(full, 255, 7, &mut short),
+    );
+    say_answer(
+        b"wide, size 256, finished with 8 bits",
+        wide::finish(wide_state(256, 0), 255, 8, &mut short),
     );
 }
 
@@ -296,10 +350,10 @@ fn wide_cut(message: &[u8], at: usize) -> u64
     let opened = o.state;
     let f = wide::feed(opened, &message[..at]);
     let first = f.state;
-    wide::finish(first, &mut out);
+    wide::finish(first, 0, 0, &mut out);
     let g = wide::feed(first, &message[at..]);
     let second = g.state;
-    wide::finish(second, &mut out);
+    wide::finish(second, 0, 0, &mut out);
     if check::same(&whole, &out) {
         return 1;
     }
@@ -517,7 +571,9 @@ fn wide_examples() {
 
 fn main() {
     narrow_points();
+    narrow_bit_points();
     wide_points();
+    wide_bit_points();
     one_call_points();
     let mut m = [0u8; 200];
     count_up(&mut m, 0);

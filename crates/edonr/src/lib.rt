@@ -10,7 +10,7 @@ ghost use Rattle.quasigroup.specs.Product.{product};
 ghost use Rattle.quasigroup.specs.Division.{leftDivision, rightDivision};
 ghost use Rattle.operands.specs.Operation.{answerFor, outputAfter};
 ghost use Rattle.digest.specs.Kind.{narrowKind, wideKind};
-ghost use Rattle.digest.specs.State.{openAnswer, opened, finishAnswer, finishOut};
+ghost use Rattle.digest.specs.State.{openAnswer, opened, finishAnswer, finishOut, finishBitsAnswer, finishBitsOut};
 ghost use Rattle.digest.specs.OneCall.{oneCallAnswer, oneCallOut};
 ghost use Rattle.batch.specs.Batch.{batchAnswer, batchOut};
 ghost use Rattle.invertible.specs.RoundTrip.{Forward, Backward};
@@ -213,6 +213,20 @@ pub extern "C" fn edonr_narrow_finish(hash: &Narrow, out: &mut [u8]) -> u64
     pieces::narrow_finish(*hash, out)
 }
 
+// The digest of what `hash` was fed and then the `count` highest bits of `last`, to the start of `out`; `hash` may be fed further.
+#[no_mangle]
+pub extern "C" fn edonr_narrow_finish_bits(
+    hash: &Narrow,
+    last: u8,
+    count: u32,
+    out: &mut [u8],
+) -> u64
+    ensures { λ r. ⌜ (r ≡ numberOf (finishBitsAnswer narrowKind (ofNarrow (now (hash .entry))) count (now (out .entry))))
+        × (now (out .exit) ≡ finishBitsOut narrowKind (ofNarrow (now (hash .entry))) last count (now (out .entry))) ⌝ }
+{
+    pieces::narrow_finish_bits(*hash, last, count, out)
+}
+
 // A wide hash of `size` bits is opened in `hash`, whatever stood there; a refusal leaves what stood there.
 #[no_mangle]
 pub extern "C" fn edonr_wide_open(hash: &mut Wide, size: u32) -> u64
@@ -242,4 +256,13 @@ pub extern "C" fn edonr_wide_finish(hash: &Wide, out: &mut [u8]) -> u64
         × (now (out .exit) ≡ finishOut wideKind (ofWide (now (hash .entry))) (now (out .entry))) ⌝ }
 {
     pieces::wide_finish(*hash, out)
+}
+
+// The digest of what `hash` was fed and then the `count` highest bits of `last`, to the start of `out`; `hash` may be fed further.
+#[no_mangle]
+pub extern "C" fn edonr_wide_finish_bits(hash: &Wide, last: u8, count: u32, out: &mut [u8]) -> u64
+    ensures { λ r. ⌜ (r ≡ numberOf (finishBitsAnswer wideKind (ofWide (now (hash .entry))) count (now (out .entry))))
+        × (now (out .exit) ≡ finishBitsOut wideKind (ofWide (now (hash .entry))) last count (now (out .entry))) ⌝ }
+{
+    pieces::wide_finish_bits(*hash, last, count, out)
 }

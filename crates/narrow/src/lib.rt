@@ -7,7 +7,7 @@ ghost use Rattle.quasigroup.specs.Tables.{width32};
 ghost use Rattle.digest.specs.Blocks.{compressed, rest, filled};
 ghost use Rattle.digest.specs.Step.{step};
 ghost use Rattle.digest.specs.Kind.{narrowKind};
-ghost use Rattle.digest.specs.State.{closed, finishAnswer, finishOut};
+ghost use Rattle.digest.specs.State.{closed, finishBitsAnswer, finishBitsOut};
 ghost use Rattle.digest.specs.OneCall.{digestAnswer, digestOut};
 ghost use Rattle.compression32.specs.Pipes.{pipe32};
 ghost use Rattle.narrow.specs.Outcomes.{hashOf, opened, fed};
@@ -152,21 +152,23 @@ pub fn feed_in(hash: &mut Narrow, bytes: &[u8]) -> Answer
     r.answer
 }
 
-// The digest of what was fed, to the start of `out`. The caller's state stays as it is, and may be fed further.
-pub fn finish(hash: Narrow, out: &mut [u8]) -> Answer
-    ensures { λ r. ⌜ r ≡ finishAnswer narrowKind (hashOf hash) (now (out .entry)) ⌝ }
-    ensures { λ r. ⌜ now (out .exit) ≡ finishOut narrowKind (hashOf hash) (now (out .entry)) ⌝ }
+// The digest of what was fed and then the `count` highest bits of `last`, to the start of `out`. The caller's state stays as it is, and may be fed further.
+pub fn finish(hash: Narrow, last: u8, count: u32, out: &mut [u8]) -> Answer
+    ensures { λ r. ⌜ r ≡ finishBitsAnswer narrowKind (hashOf hash) count (now (out .entry)) ⌝ }
+    ensures { λ r. ⌜ now (out .exit) ≡ finishBitsOut narrowKind (hashOf hash) last count (now (out .entry)) ⌝ }
 {
     let size = hash.size;
     let total = hash.total;
-    let answer = refusal::finishing(224, 256, size, total, out.len());
+    let answer = refusal::finishing(224, 256, size, total, count, out.len());
     if !answer::is_done(answer) {
         return answer;
     }
     let at = (total % 64) as usize;
     let p = hash.pipe;
     let w = hash.waiting;
-    let q = close(p, &w[..at], 0x80, 8 * total);
+    let mark = padding::marked(last, count);
+    let bits = padding::bit_length(total, count);
+    let q = close(p, &w[..at], mark, bits);
     block32::write(q, (size / 8) as usize, out);
     answer
 }

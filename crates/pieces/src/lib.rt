@@ -3,7 +3,7 @@ ghost use mathlib.Core.Path.{_≡_};
 ghost use Rattle.answer.specs.Number.{numberOf};
 ghost use Rattle.answer.specs.Refuse.{outcome};
 ghost use Rattle.digest.specs.Kind.{narrowKind, wideKind};
-ghost use Rattle.digest.specs.State.{finishAnswer, finishOut};
+ghost use Rattle.digest.specs.State.{finishAnswer, finishOut, finishBitsAnswer, finishBitsOut};
 ghost use Rattle.narrow.specs.Outcomes.{hashOf as ofNarrow};
 ghost use Rattle.wide.specs.Outcomes.{hashOf as ofWide};
 ghost use Rattle.pieces.specs.Piece.{narrowOpened, narrowFed, wideOpened, wideFed};
@@ -53,11 +53,20 @@ pub fn narrow_feed(hash: Narrow, bytes: &[u8]) -> NarrowPiece
     NarrowPiece { number, state }
 }
 
+// The digest of what a narrow hash was fed: document 01's finishing, which is that with no bits.
 pub fn narrow_finish(hash: Narrow, out: &mut [u8]) -> u64
     ensures { λ r. ⌜ (r ≡ numberOf (finishAnswer narrowKind (ofNarrow hash) (now (out .entry))))
         × (now (out .exit) ≡ finishOut narrowKind (ofNarrow hash) (now (out .entry))) ⌝ }
 {
-    answer::number(narrow::finish(hash, out))
+    answer::number(narrow::finish(hash, 0, 0, out))
+}
+
+// The same, with the `count` highest bits of `last` behind what was fed.
+pub fn narrow_finish_bits(hash: Narrow, last: u8, count: u32, out: &mut [u8]) -> u64
+    ensures { λ r. ⌜ (r ≡ numberOf (finishBitsAnswer narrowKind (ofNarrow hash) count (now (out .entry))))
+        × (now (out .exit) ≡ finishBitsOut narrowKind (ofNarrow hash) last count (now (out .entry))) ⌝ }
+{
+    answer::number(narrow::finish(hash, last, count, out))
 }
 
 // What an answer leaves of a wide hash: `new`, or beside a refusal `old`.
@@ -92,9 +101,18 @@ pub fn wide_feed(hash: Wide, bytes: &[u8]) -> WidePiece
     WidePiece { number, state }
 }
 
+// The digest of what a wide hash was fed: document 01's finishing, which is that with no bits.
 pub fn wide_finish(hash: Wide, out: &mut [u8]) -> u64
     ensures { λ r. ⌜ (r ≡ numberOf (finishAnswer wideKind (ofWide hash) (now (out .entry))))
         × (now (out .exit) ≡ finishOut wideKind (ofWide hash) (now (out .entry))) ⌝ }
 {
-    answer::number(wide::finish(hash, out))
+    answer::number(wide::finish(hash, 0, 0, out))
+}
+
+// The same, with the `count` highest bits of `last` behind what was fed.
+pub fn wide_finish_bits(hash: Wide, last: u8, count: u32, out: &mut [u8]) -> u64
+    ensures { λ r. ⌜ (r ≡ numberOf (finishBitsAnswer wideKind (ofWide hash) count (now (out .entry))))
+        × (now (out .exit) ≡ finishBitsOut wideKind (ofWide hash) last count (now (out .entry))) ⌝ }
+{
+    answer::number(wide::finish(hash, last, count, out))
 }

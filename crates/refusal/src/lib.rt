@@ -1,6 +1,8 @@
 // What the operations of a hash answer: every refusal of both kinds, by numbers alone. `small` and `large` are a kind's two sizes.
 ghost use mathlib.Core.Path.{_≡_};
-ghost use Rattle.digest.specs.Refusals.{isSize, inForm, opening, feeding, delivering, finishing, digesting};
+ghost use Prim.Native.Nat.{_/_};
+ghost use lib.Dec.{ltb};
+ghost use Rattle.digest.specs.Refusals.{isSize, inForm, opening, feeding, delivering, finishingBits, digesting};
 use answer::Answer;
 use answer::Refusal;
 
@@ -47,22 +49,39 @@ pub fn feeding(small: u64, large: u64, size: u64, total: u64, len: usize) -> Ans
     Answer::Done(total + more)
 }
 
+// Whether an output of `room` bytes is too short for a digest of `size` bits.
+fn is_short(size: u64, room: usize) -> bool
+    ensures { λ r. ⌜ r ≡ ltb room (size / 8) ⌝ }
+{
+    room < (size / 8) as usize
+}
+
 fn delivering(size: u64, room: usize) -> Answer
     ensures { λ r. ⌜ r ≡ delivering size room ⌝ }
 {
-    if room < (size / 8) as usize {
-        return Answer::Refused(Refusal::Output, 0);
+    if !is_short(size, room) {
+        return Answer::Done(size / 8);
     }
-    Answer::Done(size / 8)
+    Answer::Refused(Refusal::Output, 0)
 }
 
-pub fn finishing(small: u64, large: u64, size: u64, total: u64, room: usize) -> Answer
-    ensures { λ r. ⌜ r ≡ finishing small large size total room ⌝ }
+// The tests that follow that of the state are made first, and then looked at in their order.
+pub fn finishing(small: u64, large: u64, size: u64, total: u64, count: u32, room: usize) -> Answer
+    ensures { λ r. ⌜ r ≡ finishingBits small large size total count room ⌝ }
 {
+    let over = 7 < count;
+    let short = is_short(size, room);
     if !in_form(small, large, size, total) {
         return Answer::Refused(Refusal::State, 0);
     }
-    delivering(size, room)
+    if over {
+        return Answer::Refused(Refusal::BitCount, 0);
+    }
+    if short {
+        return Answer::Refused(Refusal::Output, 0);
+    }
+    let length = size / 8;
+    Answer::Done(length)
 }
 
 pub fn digesting(small: u64, large: u64, size: u64, len: usize, room: usize) -> Answer

@@ -17,7 +17,7 @@ refusal-number-spec =
     (tie.spec
     (λ c. search needs) (λ c. search needs) (λ c. search needs) (λ c. search needs) (λ c. search needs) (λ c. search needs)
     (λ c. search needs) (λ c. search needs) (λ c. search needs) (λ c. search needs) (λ c. search needs) (λ c. search needs)
-    (λ c. search needs) (λ c. search needs) (λ c. search needs) (λ c. search needs) (λ c. search needs)
+    (λ c. search needs) (λ c. search needs) (λ c. search needs) (λ c. search needs) (λ c. search needs) (λ c. search needs)
     (λ c. numbered (c .enum-told .given .1) (lit≤ tt)) (λ c. numbered (c .enum-told2 .given .1) (lit≤ tt))
     (λ c. numbered (c .enum-told3 .given .1) (lit≤ tt)) (λ c. numbered (c .enum-told4 .given .1) (lit≤ tt))
     (λ c. numbered (c .enum-told5 .given .1) (lit≤ tt)) (λ c. numbered (c .enum-told6 .given .1) (lit≤ tt))
@@ -26,4 +26,4 @@ refusal-number-spec =
     (λ c. numbered (c .enum-told11 .given .1) (lit≤ tt)) (λ c. numbered (c .enum-told12 .given .1) (lit≤ tt))
     (λ c. numbered (c .enum-told13 .given .1) (lit≤ tt)) (λ c. numbered (c .enum-told14 .given .1) (lit≤ tt))
     (λ c. numbered (c .enum-told15 .given .1) (lit≤ tt)) (λ c. numbered (c .enum-told16 .given .1) (lit≤ tt))
-    (λ c. numbered (c .enum-told17 .given .1) (lit≤ tt)))
+    (λ c. numbered (c .enum-told17 .given .1) (lit≤ tt)) (λ c. numbered (c .enum-told18 .given .1) (lit≤ tt)))

@@ -1,4 +1,5 @@
 -- The walk of crate walk, at this kind's types and at `pieces::wide_finish`, of which it knows only that it meets its contract.
+use mathlib.Core.List.{[]}
 use contract.Running.{givenOf, tables, tablesOf}
 use denote.Triple.Spec.{tripleOf}
 use denote.Triple.Table.{entered, cited}
@@ -21,5 +22,5 @@ unfolding code.routine tablesOf
 edonr-wide-finish-spec 𝓤 H 𝓜 𝓖 𝓡 =
     entered 𝓤 H (tripleOf 𝓤 H (𝓖 .A) f.signature (f.spec 𝓤 H (𝓖 .A) (𝓜 .mem) (𝓡 .run)))
     (tables 𝓤 H 𝓜 𝓡 code.env .C) (tables 𝓤 H 𝓜 𝓡 code.env .Λ) #f code.function (code.unfolded 𝓤 H 𝓜 𝓡)
-    (finishing.meets wide-types (λ h s. numberOf (finishAnswer wideKind (hashOf h) s)) (λ h s. finishOut wideKind (hashOf h) s) 𝓤 H (𝓖 .A) (givenOf 𝓤 H 𝓜 𝓖) #value (tablesOf 𝓤 H 𝓜 (tables 𝓤 H 𝓜 𝓡 code.env))
-    (cited 𝓤 H (finishing.Value wide-types (λ h s. numberOf (finishAnswer wideKind (hashOf h) s)) (λ h s. finishOut wideKind (hashOf h) s) 𝓤 H (𝓖 .A)) 𝓜 𝓡 code.env #value value-def.routine code.calls-pieces·wide-finish (value-thm.met 𝓤 H 𝓜 𝓖 𝓡)))
+    (finishing.meets wide-types [] (λ h _ s. numberOf (finishAnswer wideKind (hashOf h) s)) (λ h _ s. finishOut wideKind (hashOf h) s) 𝓤 H (𝓖 .A) (givenOf 𝓤 H 𝓜 𝓖) #value (tablesOf 𝓤 H 𝓜 (tables 𝓤 H 𝓜 𝓡 code.env))
+    (cited 𝓤 H (finishing.Value wide-types [] (λ h _ s. numberOf (finishAnswer wideKind (hashOf h) s)) (λ h _ s. finishOut wideKind (hashOf h) s) 𝓤 H (𝓖 .A)) 𝓜 𝓡 code.env #value value-def.routine code.calls-pieces·wide-finish (value-thm.met 𝓤 H 𝓜 𝓖 𝓡)))

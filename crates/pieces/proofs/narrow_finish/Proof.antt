@@ -1,11 +1,19 @@
 use mathlib.Core.Path.{ap, _∙_}
 use borrow.Author.Needs.{needs}
+use denote.Ref.{now}
 use Rattle.answer.specs.Number.{numberOf}
+use Rattle.digest.specs.Kind.{narrowKind}
+use Rattle.digest.proofs.BitFinishing.{no-bits}
+use Rattle.narrow.specs.Outcomes.{hashOf}
 use Rattle.pieces.proofs.narrow_finish.Statement.{statement}
 use Rattle.pieces.proofs.narrow_finish.Tie as tie
 
 returns : tie.Need-returns
-returns c = (c .number .ensures ∙ ap numberOf (c .before .before .before .finish .ensures .0), c .before .before .before .finish .ensures .1)
+returns c =
+    let f = c .before .before .before in
+    let a = f .before .before .before .args in
+    let none = no-bits narrowKind (hashOf (a .hash)) 0 (now (a .out)) in
+    (c .number .ensures ∙ ap numberOf (f .finish .ensures .0 ∙ none .0), f .finish .ensures .1 ∙ none .1)
 
 pub narrow-finish-spec : {M : Type 1} → statement M
 narrow-finish-spec = tie.close (tie.spec

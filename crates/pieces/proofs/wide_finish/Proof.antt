@@ -1,11 +1,19 @@
 use mathlib.Core.Path.{ap, _∙_}
 use borrow.Author.Needs.{needs}
+use denote.Ref.{now}
 use Rattle.answer.specs.Number.{numberOf}
+use Rattle.digest.specs.Kind.{wideKind}
+use Rattle.digest.proofs.BitFinishing.{no-bits}
+use Rattle.wide.specs.Outcomes.{hashOf}
 use Rattle.pieces.proofs.wide_finish.Statement.{statement}
 use Rattle.pieces.proofs.wide_finish.Tie as tie
 
 returns : tie.Need-returns
-returns c = (c .number .ensures ∙ ap numberOf (c .before .before .before .finish .ensures .0), c .before .before .before .finish .ensures .1)
+returns c =
+    let f = c .before .before .before in
+    let a = f .before .before .before .args in
+    let none = no-bits wideKind (hashOf (a .hash)) 0 (now (a .out)) in
+    (c .number .ensures ∙ ap numberOf (f .finish .ensures .0 ∙ none .0), f .finish .ensures .1 ∙ none .1)
 
 pub wide-finish-spec : {M : Type 1} → statement M
 wide-finish-spec = tie.close (tie.spec
