@@ -124,7 +124,8 @@ uint64_t edonr_right_division(uint32_t width, const uint8_t *b, size_t b_len,
 #define EDONR_REFUSED_JOINED_LENGTH 13 /* the lengths do not sum to the joined length */
 
 /*
- * The EDON-R digest of a message of whole bytes, in one call.
+ * The EDON-R digest of a message of whole bytes, in one call. One that ends inside a byte
+ * is opened, fed and finished with its last bits (D).
  *
  * Reads    message, message_len bytes; none is fine. size is the digest's length n in
  *          bits: 224 and 256 work at width 32, 384 and 512 at width 64.
@@ -321,7 +322,12 @@ uint64_t edonr_inverse_sheet(uint32_t width, const uint8_t *sheet, size_t sheet_
  * A hash in progress is a struct that the caller holds: opened, fed any number of times,
  * and finished any number of times. There is a narrow kind for the sizes 224 and 256 and
  * a wide kind for 384 and 512. What comes out is edonr_digest of all bytes fed, however
- * they were cut.
+ * they were cut; or, by a finishing that is given bits besides, the digest of all bytes fed
+ * and then these bits.
+ *
+ * A message is a string of bits, of which the highest bit of a byte is the first. Whole
+ * bytes are fed, and a finishing adds 0 to 7 bits. So messages have up to 2^64 - 1 bits:
+ * 2^61 - 1 bytes and 7 bits.
  *
  * Its fields are open. Nothing is hidden beside it: a copy goes its own way. A struct of
  * any bytes at all may be fed and finished. It is in form if its size is one of its
@@ -336,7 +342,8 @@ uint64_t edonr_inverse_sheet(uint32_t width, const uint8_t *sheet, size_t sheet_
  *   Before opening it may hold anything.
  */
 
-#define EDONR_REFUSED_STATE 2 /* the hash in progress is not in form */
+#define EDONR_REFUSED_STATE 2      /* the hash in progress is not in form */
+#define EDONR_REFUSED_BIT_COUNT 15 /* the last byte is to give more than 7 bits */
 
 struct edonr_narrow {
     uint64_t size;       /* 224 or 256 */
@@ -395,6 +402,27 @@ uint64_t edonr_narrow_feed(struct edonr_narrow *hash, const uint8_t *bytes,
 uint64_t edonr_narrow_finish(const struct edonr_narrow *hash, uint8_t *out, size_t out_len);
 
 /*
+ * Writes the digest of a message that ends inside a byte: of what a hash of the narrow kind
+ * was fed and then the count highest bits of last, the highest first. The hash stays as it
+ * is, so feeding may go on.
+ *
+ * The single one bit of the padding follows these bits, then zeros, and the length in the
+ * padding is that of all bits, 8 * total + count. The other bits of last do not matter.
+ * With a count of 0 none of them does, and the call answers and writes what
+ * edonr_narrow_finish does.
+ *
+ * Reads    hash. count is the number of bits, 0 to 7, that last gives.
+ * Writes   on success the first size/8 bytes of out: the digest. Bytes behind them stay.
+ * Returns  size/8, that is 28 or 32.
+ * Refuses  in this order:
+ *          2 EDONR_REFUSED_STATE      hash is not in form;
+ *         15 EDONR_REFUSED_BIT_COUNT  count is above 7;
+ *          4 EDONR_REFUSED_OUTPUT     out_len is under size/8.
+ */
+uint64_t edonr_narrow_finish_bits(const struct edonr_narrow *hash, uint8_t last,
+                                  uint32_t count, uint8_t *out, size_t out_len);
+
+/*
  * Opens a hash of the wide kind, whatever hash held before.
  *
  * Writes   on success hash: the starting state of this size. A refusal leaves it.
@@ -423,6 +451,20 @@ uint64_t edonr_wide_feed(struct edonr_wide *hash, const uint8_t *bytes, size_t b
  * Refuses  what edonr_narrow_finish refuses, with the same answers.
  */
 uint64_t edonr_wide_finish(const struct edonr_wide *hash, uint8_t *out, size_t out_len);
+
+/*
+ * Writes the digest of a message that ends inside a byte: of what a hash of the wide kind
+ * was fed and then the count highest bits of last, as edonr_narrow_finish_bits takes them.
+ * The hash stays as it is, so feeding may go on. With a count of 0 the call answers and
+ * writes what edonr_wide_finish does.
+ *
+ * Reads    hash. count is the number of bits, 0 to 7, that last gives.
+ * Writes   on success the first size/8 bytes of out: the digest. Bytes behind them stay.
+ * Returns  size/8, that is 48 or 64.
+ * Refuses  what edonr_narrow_finish_bits refuses, with the same answers.
+ */
+uint64_t edonr_wide_finish_bits(const struct edonr_wide *hash, uint8_t last, uint32_t count,
+                                uint8_t *out, size_t out_len);
 
 /* ============================ E. Blocks ============================ */
 

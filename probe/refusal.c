@@ -31,6 +31,8 @@ static const struct refusal refusals[] = {
      "the lengths do not sum to the joined length"},
     {EDONR_REFUSED_START, "EDONR_REFUSED_START",
      "a slice starts neither at a command nor at the end"},
+    {EDONR_REFUSED_BIT_COUNT, "EDONR_REFUSED_BIT_COUNT",
+     "the last byte is to give more than 7 bits"},
     {EDONR_REFUSED_RECORDS, "EDONR_REFUSED_RECORDS", "the last record is not whole"},
     {EDONR_REFUSED_RECORD_COUNT, "EDONR_REFUSED_RECORD_COUNT",
      "there are more records than commands"},

@@ -129,28 +129,73 @@ uint64_t check_feed_in_place(enum kind kind, union hash *hash, const uint8_t *by
     return check_feed(kind, hash, bytes, len, bytes);
 }
 
-uint64_t check_finish_call(enum kind kind, const union hash *hash, size_t out_len,
-                           uint8_t *digest)
+/* The bits that a finishing is given, or null for the finishing of document 01. */
+struct last_bits {
+    uint8_t last;
+    uint32_t count;
+};
+
+static uint64_t finish_by_reference(enum kind kind, const union hash *hash,
+                                    const struct last_bits *bits, uint8_t *out,
+                                    size_t out_len)
+{
+    if (bits == NULL)
+        return kind == NARROW ? reference_finish_32(&hash->narrow, out, out_len)
+                              : reference_finish_64(&hash->wide, out, out_len);
+    return kind == NARROW ? reference_finish_bits_32(&hash->narrow, bits->last, bits->count,
+                                                     out, out_len)
+                          : reference_finish_bits_64(&hash->wide, bits->last, bits->count,
+                                                     out, out_len);
+}
+
+static uint64_t finish_by_archive(enum kind kind, const void *hash,
+                                  const struct last_bits *bits, uint8_t *out,
+                                  size_t out_len)
+{
+    if (bits == NULL)
+        return kind == NARROW ? edonr_narrow_finish(hash, out, out_len)
+                              : edonr_wide_finish(hash, out, out_len);
+    return kind == NARROW
+               ? edonr_narrow_finish_bits(hash, bits->last, bits->count, out, out_len)
+               : edonr_wide_finish_bits(hash, bits->last, bits->count, out, out_len);
+}
+
+static uint64_t check_finishing(enum kind kind, const union hash *hash,
+                                const struct last_bits *bits, size_t out_len,
+                                uint8_t *digest)
 {
     uint8_t before[HASH_CALL_OUT], after[HASH_CALL_OUT];
     union hash left;
-    random_fill(before, out_len);
-    memcpy(after, before, out_len);
+    size_t held = out_len <= HASH_CALL_OUT ? out_len : 0;
+    random_fill(before, held);
+    memcpy(after, before, held);
     const void *lent = place_hash(kind, hash);
     lent_place(&lent_out, before, out_len);
-    uint64_t want = kind == NARROW ? reference_finish_32(&hash->narrow, after, out_len)
-                                   : reference_finish_64(&hash->wide, after, out_len);
-    uint64_t got = kind == NARROW ? edonr_narrow_finish(lent, lent_out.bytes, out_len)
-                                  : edonr_wide_finish(lent, lent_out.bytes, out_len);
+    uint64_t want = finish_by_reference(kind, hash, bits, after, out_len);
+    uint64_t got = finish_by_archive(kind, lent, bits, lent_out.bytes, out_len);
     size_t written = is_refusal(want) ? 0 : (size_t)want;
-    bool frame = memcmp(after + written, before + written, out_len - written) == 0;
+    bool frame = memcmp(after + written, before + written, held - written) == 0;
     bool same = lent_holds(&lent_out, after);
     check(got == want && frame && same && take_hash(kind, hash, &left),
-          "%s, size %" PRIx64 ", total %" PRIx64 ", output of %zu: answered %" PRIx64
-          ", expected %" PRIx64 "%s",
-          kind_names[kind], hash_size(kind, hash), hash_total(kind, hash), out_len, got,
+          "%s, size %" PRIx64 ", total %" PRIx64 ", last byte %x, bits %" PRIx32
+          ", output of %zu: answered %" PRIx64 ", expected %" PRIx64 "%s",
+          kind_names[kind], hash_size(kind, hash), hash_total(kind, hash),
+          bits == NULL ? 0u : bits->last, bits == NULL ? 0 : bits->count, out_len, got,
           want, same ? "" : "; another output");
-    if (digest != NULL)
+    if (digest != NULL && written > 0)
         memcpy(digest, lent_out.bytes, written);
     return got;
+}
+
+uint64_t check_finish_call(enum kind kind, const union hash *hash, size_t out_len,
+                           uint8_t *digest)
+{
+    return check_finishing(kind, hash, NULL, out_len, digest);
+}
+
+uint64_t check_finish_bits_call(enum kind kind, const union hash *hash, uint8_t last,
+                                uint32_t count, size_t out_len, uint8_t *digest)
+{
+    struct last_bits bits = {last, count};
+    return check_finishing(kind, hash, &bits, out_len, digest);
 }

@@ -44,8 +44,13 @@ uint64_t check_feed_in_place(enum kind kind, union hash *hash, const uint8_t *by
                              size_t len);
 
 /* The same; the hash has to stand, refused or not. After a success digest holds what the
-   archive wrote, if it is not null. */
+   archive wrote, if it is not null. A longer output is only claimed, for a call that is
+   refused. */
 uint64_t check_finish_call(enum kind kind, const union hash *hash, size_t out_len,
                            uint8_t *digest);
+
+/* The same of a finishing with bits: the count highest of the last byte. */
+uint64_t check_finish_bits_call(enum kind kind, const union hash *hash, uint8_t last,
+                                uint32_t count, size_t out_len, uint8_t *digest);
 
 #endif

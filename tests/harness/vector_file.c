@@ -5,7 +5,7 @@
 #include <stdlib.h>
 #include <string.h>
 
-enum { MOST_LINE = 512 };
+enum { MOST_LINE = 2048 };
 
 _Noreturn void vector_file_stop(const char *why)
 {
@@ -30,6 +30,8 @@ void vector_file_read(const char *path, vector_line *line, void *context)
     if (file == NULL)
         vector_file_stop("it cannot be opened");
     while (fgets(text, sizeof text, file) != NULL) {
+        if (strchr(text, '\n') == NULL && !feof(file))
+            vector_file_stop("a line is too long");
         text[strcspn(text, "\r\n")] = '\0';
         if (text[0] == '\0' || text[0] == '#')
             continue;

@@ -24,6 +24,7 @@ enum refusal {
     TOO_MANY_MESSAGES = 12,
     BAD_JOINED_LENGTH = 13,
     BAD_START = 14,
+    BAD_BIT_COUNT = 15,
     BAD_RECORDS = 16,
     TOO_MANY_RECORDS = 17,
     BAD_PAIRS = 19

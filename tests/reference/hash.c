@@ -3,6 +3,7 @@
 #include <stdbool.h>
 
 #include "answer.h"
+#include "bits.h"
 #include "block.h"
 
 static bool is_size_32(uint64_t size)

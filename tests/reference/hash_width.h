@@ -66,4 +66,35 @@ uint64_t AT_WIDTH(reference_finish)(const HASH *hash, uint8_t *out, size_t out_l
     return hash->size / 8;
 }
 
+/* The pipe after the last blocks: of the bits that wait, those of the last byte and the
+   padding. Whole blocks before them do not change where a block ends. */
+static void AT_WIDTH(end_with_bits)(const HASH *hash, uint8_t last, uint32_t count,
+                                    WORD pipe[16])
+{
+    uint8_t room[2 * 8 * BLOCK_BYTES], padded[2 * BLOCK_BYTES];
+    struct bits bits = {room, 0};
+    append_bits(&bits, hash->waiting, 8 * (size_t)(hash->total % BLOCK_BYTES));
+    append_bits(&bits, &last, count);
+    append_padding(&bits, 8 * BLOCK_BYTES, 8 * hash->total + count);
+    pack_bits(&bits, padded);
+    memcpy(pipe, hash->pipe, sizeof hash->pipe);
+    for (size_t at = 0; at < bits.len / 8; at += BLOCK_BYTES)
+        AT_WIDTH(add_block)(pipe, padded + at);
+}
+
+uint64_t AT_WIDTH(reference_finish_bits)(const HASH *hash, uint8_t last, uint32_t count,
+                                         uint8_t *out, size_t out_len)
+{
+    WORD pipe[16];
+    if (!AT_WIDTH(in_form)(hash))
+        return refuse(BAD_STATE, 0);
+    if (count > 7)
+        return refuse(BAD_BIT_COUNT, 0);
+    if (out_len < hash->size / 8)
+        return refuse(OUTPUT_TOO_SHORT, 0);
+    AT_WIDTH(end_with_bits)(hash, last, count, pipe);
+    AT_WIDTH(store_digest)(pipe, out, (size_t)hash->size / 8);
+    return hash->size / 8;
+}
+
 #undef HASH
