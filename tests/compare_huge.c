@@ -102,7 +102,8 @@ static void check_one_call(uint32_t size, size_t len, const uint8_t digest[64])
           "size %" PRIu32 ", %zu bytes in one call: answered %" PRIx64, size, len, got);
 }
 
-/* Fed from mark to mark, from one of them on, with the digests of both ways at each. */
+/* Fed from mark to mark, from one of them on, with the digests of both ways at each, and
+   those with bits behind. */
 static void compare_size(enum kind kind, uint32_t size, unsigned first)
 {
     union hash hash;
@@ -115,6 +116,9 @@ static void compare_size(enum kind kind, uint32_t size, unsigned first)
     for (unsigned i = first; i < MARKS; i++) {
         check_feed_in_place(kind, &hash, message + fed, (size_t)(marks[i] - fed));
         check_finish_call(kind, &hash, sizeof digest, NULL);
+        for (uint32_t count = 0; count < 8; count++)
+            check_finish_bits_call(kind, &hash, (uint8_t)random_word(), count,
+                                   sizeof digest, NULL);
         if (kind == NARROW)
             reference_finish_32(&hash.narrow, digest, sizeof digest);
         else
@@ -185,6 +189,21 @@ static void compare_finish(enum kind kind, uint32_t size)
     check_out("finishing", size, got, want);
 }
 
+static void compare_finish_bits(enum kind kind, uint32_t size)
+{
+    union hash hash;
+    random_fill((uint8_t *)&hash, sizeof hash);
+    set_hash(kind, &hash, size, random_bits(61));
+    size_t len = prepare_out();
+    const void *lent = &hash;
+    uint64_t want = kind == NARROW
+                        ? reference_finish_bits_32(&hash.narrow, 0xA5, 5, want_out, len)
+                        : reference_finish_bits_64(&hash.wide, 0xA5, 5, want_out, len);
+    uint64_t got = kind == NARROW ? edonr_narrow_finish_bits(lent, 0xA5, 5, huge_out, len)
+                                  : edonr_wide_finish_bits(lent, 0xA5, 5, huge_out, len);
+    check_out("finishing with bits", size, got, want);
+}
+
 static void compare_inverse_sheet(uint32_t width)
 {
     static struct sheet sheet;
@@ -239,6 +258,7 @@ static void compare_outputs(void)
         compare_digest(kind_sizes[i / 2][i % 2]);
         compare_digests(kind_sizes[i / 2][i % 2]);
         compare_finish((enum kind)(i / 2), kind_sizes[i / 2][i % 2]);
+        compare_finish_bits((enum kind)(i / 2), kind_sizes[i / 2][i % 2]);
     }
 }
 

@@ -196,6 +196,21 @@ static void compare_pieces(enum kind kind)
     }
 }
 
+/* The same with bits: without an output refused by 2, by 15, or by 4. */
+static void compare_last_bits(enum kind kind)
+{
+    static const uint64_t totals[] = {0, 55, 119, MOST_BYTES_FED, MOST_BYTES_FED + 1};
+    static const uint32_t counts[] = {0, 1, 7, 8, 256, UINT32_MAX};
+    union hash hash;
+    check_group("finishing with bits, %s", kind_names[kind]);
+    for (unsigned n = 0; n < 6 * 6 * 5; n++) {
+        random_fill((uint8_t *)&hash, sizeof hash);
+        set_hash(kind, &hash, sizes[n % 6], totals[n / 36]);
+        check_finish_bits_call(kind, &hash, bytes[n], counts[n / 6 % 6], 0, NULL);
+        check_finish_bits_call(kind, &hash, bytes[n], counts[n / 6 % 6], 64, NULL);
+    }
+}
+
 #define REFUSED(number) ((uint64_t)(number) << 32)
 
 /* The same as numbers, without the reference. */
@@ -228,6 +243,23 @@ static void check_points(void)
     check(edonr_wide_feed(&wide, NULL, 0) == 0, "wide, fed nothing");
     check(edonr_narrow_finish(&narrow, NULL, 0) == REFUSED(4), "narrow, no output");
     check(edonr_wide_finish(&wide, NULL, 0) == REFUSED(4), "wide, no output");
+}
+
+static void check_bits_points(void)
+{
+    struct edonr_narrow narrow = {.size = 256};
+    struct edonr_wide wide = {.size = 512};
+    check_group("answers of finishing with bits as numbers");
+    check(edonr_narrow_finish_bits(&narrow, 1, 7, NULL, 0) == REFUSED(4), "narrow");
+    check(edonr_wide_finish_bits(&wide, 1, 7, NULL, 0) == REFUSED(4), "wide");
+    check(edonr_narrow_finish_bits(&narrow, 1, 8, NULL, 0) == REFUSED(15),
+          "narrow, too many bits");
+    check(edonr_wide_finish_bits(&wide, 1, 8, NULL, 0) == REFUSED(15),
+          "wide, too many bits");
+    narrow.size = wide.size = 320;
+    check(edonr_narrow_finish_bits(&narrow, 1, 8, NULL, 0) == REFUSED(2),
+          "narrow, not in form");
+    check(edonr_wide_finish_bits(&wide, 1, 8, NULL, 0) == REFUSED(2), "wide, not in form");
 }
 
 static void check_digests_points(void)
@@ -337,9 +369,12 @@ int main(int argc, char **argv)
     compare_shuffles();
     compare_replays();
     compare_flipped_bits();
-    for (enum kind kind = NARROW; kind < KINDS; kind++)
+    for (enum kind kind = NARROW; kind < KINDS; kind++) {
         compare_pieces(kind);
+        compare_last_bits(kind);
+    }
     check_points();
+    check_bits_points();
     check_digests_points();
     check_sheet_points();
     check_shuffle_points();

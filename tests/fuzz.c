@@ -1,5 +1,5 @@
 /*
- * fuzz [rounds]: all twenty-one calls with random arguments, sound, nearly sound and
+ * fuzz [rounds]: all twenty-three calls with random arguments, sound, nearly sound and
  * nonsense, each compared with the reference. The number of rounds is fixed, so that two
  * runs from one seed are the same.
  */
@@ -33,7 +33,7 @@ enum {
     MOST_MESSAGE = 1 << 16,
     MOST_OUT = 200,
     MOST_FUZZED = 16, /* records or messages */
-    CALLS = 21
+    CALLS = 23
 };
 
 static const uint32_t sizes[4] = {224, 256, 384, 512};
@@ -247,6 +247,19 @@ static bool fuzz_finish(enum kind kind)
     return is_refusal(check_finish_call(kind, hash, out_len, NULL));
 }
 
+/* Mostly a count that is accepted or just over, else any. An output is claimed only beside a
+   count that is refused. */
+static bool fuzz_finish_bits(enum kind kind)
+{
+    union hash *hash = fuzz_hash(kind);
+    size_t out_len = fuzz_out_len(kind_sizes[kind][random_below(2)] / 8, MOST_OUT);
+    uint8_t last = (uint8_t)random_word();
+    uint32_t count = (uint32_t)(random_below(16) == 0 ? fuzz_number(7) : random_below(10));
+    if (count > 7 && random_below(4) == 0)
+        out_len = (size_t)fuzz_claim();
+    return is_refusal(check_finish_bits_call(kind, hash, last, count, out_len, NULL));
+}
+
 static bool fuzz_step(enum direction direction)
 {
     uint8_t pipe[STEP_CALL_CAPACITY], block[STEP_CALL_CAPACITY];
@@ -349,6 +362,8 @@ static bool fuzz_call(unsigned call)
     case 17: return fuzz_shuffle(BACKWARD);
     case 18: return fuzz_replay();
     case 19: return fuzz_flips();
+    case 20:
+    case 21: return fuzz_finish_bits(kind);
     default: return fuzz_digests();
     }
 }
@@ -361,14 +376,14 @@ int main(int argc, char **argv)
         "narrow feeding", "wide feeding",  "narrow finish",  "wide finish",
         "forward step",   "backward step", "inverse sheet",  "slice",
         "shuffle",        "unshuffle",     "replay",         "flipped bits",
-        "digests",
+        "narrow bits",    "wide bits",     "digests",
     };
     unsigned long calls[CALLS] = {0}, refused[CALLS] = {0};
     int argument = check_program("fuzz", argc, argv);
     unsigned long rounds =
         argument < argc ? strtoul(argv[argument], NULL, 10) : DEFAULT_ROUNDS;
     reference_init();
-    check_group("twenty-one calls with random arguments");
+    check_group("twenty-three calls with random arguments");
     for (unsigned long round = 0; round < rounds; round++) {
         unsigned call = (unsigned)random_below(CALLS);
         calls[call]++;

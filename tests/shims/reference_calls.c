@@ -6,6 +6,7 @@
 #include <string.h>
 
 #include "edonr.h"
+#include "../reference/bits.h"
 #include "../reference/digest.h"
 #include "../reference/digests.h"
 #include "../reference/division.h"
@@ -134,6 +135,19 @@ static uint64_t keep(uint64_t total, const uint8_t *bytes, size_t bytes_len)
     return total + bytes_len;
 }
 
+/* The last byte is kept behind the others for the while. */
+static uint64_t finish_kept(uint32_t size, uint64_t total, uint8_t last, uint32_t count,
+                            uint8_t *out, size_t out_len)
+{
+    if (count > 7)
+        return edonr_refused(EDONR_REFUSED_BIT_COUNT, 0);
+    if (out_len < size / 8)
+        return edonr_refused(EDONR_REFUSED_OUTPUT, 0);
+    keep(total, &last, 1);
+    reference_digest_of_bits(size, fed, 8 * total + count, out);
+    return size / 8;
+}
+
 #define DEFINE_IN_PIECES(kind)                                                             \
     uint64_t edonr_##kind##_open(struct edonr_##kind *hash, uint32_t size)                 \
     {                                                                                      \
@@ -152,6 +166,12 @@ static uint64_t keep(uint64_t total, const uint8_t *bytes, size_t bytes_len)
                                    size_t out_len)                                         \
     {                                                                                      \
         return reference_digest((uint32_t)hash->size, fed, hash->total, out, out_len);     \
+    }                                                                                      \
+                                                                                           \
+    uint64_t edonr_##kind##_finish_bits(const struct edonr_##kind *hash, uint8_t last,     \
+                                        uint32_t count, uint8_t *out, size_t out_len)      \
+    {                                                                                      \
+        return finish_kept((uint32_t)hash->size, hash->total, last, count, out, out_len);  \
     }
 
 DEFINE_IN_PIECES(narrow)
