@@ -247,8 +247,8 @@ static bool fuzz_finish(enum kind kind)
     return is_refusal(check_finish_call(kind, hash, out_len, NULL));
 }
 
-/* Mostly a count that is accepted or just over, else any. An output is claimed only beside a
-   count that is refused. */
+/* Mostly a count that is accepted or just over, else any. An output is claimed only beside
+   a count that is refused. */
 static bool fuzz_finish_bits(enum kind kind)
 {
     union hash *hash = fuzz_hash(kind);

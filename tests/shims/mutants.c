@@ -1,12 +1,15 @@
 /*
  * Wrong archives: each call passes on to the archive's own, but for what the chosen mutant
  * does wrong. To be compiled with -DMUTANT=name, a name of the list below, and linked with
- * --wrap of all twenty-one calls, so that the comparisons meet it in the archive's place.
+ * --wrap of all twenty-three calls, so that the comparisons meet it in the archive's place.
  */
 #include <stdbool.h>
 #include <string.h>
 
 #include "edonr.h"
+
+/* One mutant of each kind of hash. */
+#define OF_BOTH_KINDS(name) narrow_##name, wide_##name
 
 enum mutant {
     none,
@@ -172,6 +175,63 @@ enum mutant {
     finish_writes_behind,
     finish_total_by_32_bits,
     finish_marked,
+    OF_BOTH_KINDS(bits_by_shim),
+    OF_BOTH_KINDS(bits_always_refused),
+    OF_BOTH_KINDS(bits_idle),
+    OF_BOTH_KINDS(bits_ignored),
+    OF_BOTH_KINDS(bits_of_lowest),
+    OF_BOTH_KINDS(bits_reversed),
+    OF_BOTH_KINDS(bits_one_less),
+    OF_BOTH_KINDS(bits_of_7),
+    OF_BOTH_KINDS(bits_of_some),
+    OF_BOTH_KINDS(bits_at_edge),
+    OF_BOTH_KINDS(bits_past_4_kib),
+    OF_BOTH_KINDS(bits_one_in_front),
+    OF_BOTH_KINDS(bits_without_one),
+    OF_BOTH_KINDS(bits_one_is_lowest),
+    OF_BOTH_KINDS(bits_one_in_next_byte),
+    OF_BOTH_KINDS(bits_others_kept),
+    OF_BOTH_KINDS(bits_ones_behind),
+    OF_BOTH_KINDS(bits_stale_byte_kept),
+    OF_BOTH_KINDS(bits_length_of_bytes),
+    OF_BOTH_KINDS(bits_length_rounded),
+    OF_BOTH_KINDS(bits_length_in_bytes),
+    OF_BOTH_KINDS(bits_length_by_32_bits),
+    OF_BOTH_KINDS(bits_length_highest_first),
+    OF_BOTH_KINDS(bits_total_by_32_bits),
+    OF_BOTH_KINDS(bits_longest_cut),
+    OF_BOTH_KINDS(bits_one_block_more),
+    OF_BOTH_KINDS(bits_one_block_less),
+    OF_BOTH_KINDS(bits_of_front),
+    OF_BOTH_KINDS(bits_answers_bits),
+    OF_BOTH_KINDS(bits_answers_output),
+    OF_BOTH_KINDS(bits_changes_hash),
+    OF_BOTH_KINDS(bits_writes_behind),
+    OF_BOTH_KINDS(bits_count_before_state),
+    OF_BOTH_KINDS(bits_output_before_state),
+    OF_BOTH_KINDS(bits_output_before_count),
+    OF_BOTH_KINDS(bits_refused_with_14),
+    OF_BOTH_KINDS(bits_refused_with_2),
+    OF_BOTH_KINDS(bits_offset_told),
+    OF_BOTH_KINDS(bits_marked),
+    OF_BOTH_KINDS(bits_0_refused),
+    OF_BOTH_KINDS(bits_7_refused),
+    OF_BOTH_KINDS(bits_takes_8),
+    OF_BOTH_KINDS(bits_count_cut),
+    OF_BOTH_KINDS(bits_count_by_3_bits),
+    OF_BOTH_KINDS(bits_count_by_8_bits),
+    OF_BOTH_KINDS(bits_count_by_16_bits),
+    OF_BOTH_KINDS(bits_count_signed),
+    OF_BOTH_KINDS(bits_longest_refused),
+    OF_BOTH_KINDS(bits_takes_any_total),
+    OF_BOTH_KINDS(bits_size_by_32_bits),
+    OF_BOTH_KINDS(bits_needs_one_more),
+    OF_BOTH_KINDS(bits_takes_one_less),
+    OF_BOTH_KINDS(bits_refused_writes),
+    OF_BOTH_KINDS(bits_short_output_written),
+    OF_BOTH_KINDS(bits_refused_changes_hash),
+    OF_BOTH_KINDS(bits_output_by_32_bits),
+    OF_BOTH_KINDS(bits_without_pointer),
     block_answers_width,
     block_refused_writes,
     block_refusals_exchanged,
@@ -1145,6 +1205,52 @@ DIGESTS(WRAP(digests))
     uint32_t refusal = new_refusal(&d);
     return refusal != 0 ? edonr_refused(refusal, 0) : write_digests(d);
 }
+
+/* ---------------- finishing with bits ---------------- */
+
+/* What stands behind the bytes that wait: a byte or two, zeros, and the length in bits. */
+struct ending {
+    uint8_t bytes[2];
+    size_t len;
+    uint64_t bits;
+    bool has_block_more; /* of zeros */
+};
+
+/* The count highest bits of a byte, with zeros behind them. */
+static uint8_t first_bits(uint8_t byte, uint32_t count)
+{
+    return (uint8_t)(byte & 0xFF00 >> count);
+}
+
+/* The same bits from the last one to the first. */
+static uint8_t reverse_bits(uint8_t byte, uint32_t count)
+{
+    uint8_t reversed = 0;
+    for (uint32_t i = 0; i < count; i++)
+        if (byte & 0x80 >> i)
+            reversed |= (uint8_t)(0x80 >> (count - 1 - i));
+    return reversed;
+}
+
+static struct ending right_ending(uint64_t total, uint8_t last, uint32_t count)
+{
+    uint8_t byte = first_bits(last, count) | (uint8_t)(0x80 >> count);
+    return (struct ending){{byte, 0}, 1, 8 * total + count, false};
+}
+
+static bool is_same_ending(const struct ending *a, const struct ending *b)
+{
+    return memcmp(a->bytes, b->bytes, sizeof a->bytes) == 0 && a->len == b->len &&
+           a->bits == b->bits && a->has_block_more == b->has_block_more;
+}
+
+#define KIND narrow
+#include "mutants_bits.h"
+#undef KIND
+
+#define KIND wide
+#include "mutants_bits.h"
+#undef KIND
 
 /* ---------------- blocks ---------------- */
 
