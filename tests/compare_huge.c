@@ -1,8 +1,8 @@
 /*
- * Messages past 2^29 and 2^32 bytes against the reference, in one call and in pieces,
- * joined messages and records of more than 2^32 bytes, a list of more than 2^32 lengths,
- * and outputs of more than 2^32 bytes or counts. At 2^29 bytes the length in bits passes 32
- * bits, at 2^32 the length in bytes does.
+ * Messages past 2^29 and 2^32 bytes against the reference, in one call, in pieces and with
+ * bits behind, joined messages and records of more than 2^32 bytes, a list of more than
+ * 2^32 lengths, and outputs of more than 2^32 bytes or counts. At 2^29 bytes the length in
+ * bits passes 32 bits, at 2^32 the length in bytes does.
  *
  * The message is a megabyte of random bytes that is mapped again and again, so it takes
  * no more memory than that. The period is no power of two, and so a place in the message

@@ -3,6 +3,7 @@
  * by bit. It is linked with the reference alone, so that the archive has no part in it:
  *
  *   gcc -O2 tests/make_bit_values.c tests/harness/rng.c tests/reference/bits.c
+ *   ./a.out >tests/vectors/bits.txt
  */
 #include <stdint.h>
 #include <stdio.h>

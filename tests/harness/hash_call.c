@@ -129,7 +129,7 @@ uint64_t check_feed_in_place(enum kind kind, union hash *hash, const uint8_t *by
     return check_feed(kind, hash, bytes, len, bytes);
 }
 
-/* The bits that a finishing is given, or null for the finishing of document 01. */
+/* What a finishing with bits is given. Null stands for the finishing without. */
 struct last_bits {
     uint8_t last;
     uint32_t count;
