@@ -16,7 +16,7 @@ use Rattle.digest.specs.Padding.{marked}
 use Rattle.digest.specs.Refusals.{limit}
 use Rattle.digest.specs.Kind.{Kind, knownSize, narrowKind, wideKind}
 use Rattle.digest.specs.State.{Hash, formed, pending, closed, cut, finishedBits, finishAnswer, finishOut, finishBitsAnswer, finishBitsOut}
-use Rattle.digest.specs.BitDigest.{message, bitsAnswer}
+use Rattle.digest.specs.BitDigest.{message, bitDigestAnswer}
 use Rattle.digest.specs.BitFinishing.{BitRefuses, BitFinishing}
 use Rattle.digest.proofs.Bits.{highest-is, length-highest, length-bitString}
 use Rattle.digest.proofs.Answers.{Sized, finishing-done, narrow-sized, wide-sized}
@@ -65,12 +65,13 @@ module _ (k : Kind) where
   no-bits h last out =
       let z : 8 * h .total + 0 ≡ 8 * h .total = omega arith in (
         refl,
-        ap₂ {C = List ℕ} (λ m b. outcome (finishAnswer k h out) (cut k (h .size) (closed k (h .pipe) (pending k h) (h .total) m b) ++ drop (h .size / 8) out) out)
+        ap₂ {C = List ℕ} (λ m b. outcome (finishAnswer k h out)
+            (cut k (h .size) (closed k (h .pipe) (pending k h) (h .total) m b) ++ drop (h .size / 8) out) out)
             (marked-none last) z,
       )
 
   largest : (n : ℕ) (m : List ℕ) (last : ℕ) (out : List ℕ) → knownSize k n ≡ true → length m ≡ limit → n / 8 ≤ length out
-      → (bitsAnswer k n m 7 out ≡ Done (n / 8)) × (length (message k m last 7) ≡ 2 ^ 64 - 1)
+      → (bitDigestAnswer k n m 7 out ≡ Done (n / 8)) × (length (message m last 7) ≡ 2 ^ 64 - 1)
   largest n m last out kn e l = (
     rw (kn, le-leb (length m) limit (omega arith), le-leb _ _ l),
     length-append (bitString m) (highest 7 last) ∙ omega (arith, length-bitString m, length-highest 7 last (omega arith)),

@@ -51,7 +51,8 @@ marked-shifts last count small few =
     let r = ap₂ bitOr kept one ∙ or-shifted (last / 2 ^ d) d (2 ^ e) above ∙ sym (marked-is last count small few) in
     let s = highest count last ++ true ∷ replicate e false in
     let n : length s ≡ 8 =
-    length-append (highest count last) (true ∷ replicate e false) ∙ omega (arith, length-highest count last (omega arith), length-replicate {A = Bool} e false) in
+    length-append (highest count last) (true ∷ replicate e false)
+    ∙ omega (arith, length-highest count last (omega arith), length-replicate {A = Bool} e false) in
     (r, rw r (subst (λ (j : ℕ). valueOf s < 2 ^ j) n (value-lt s)))
 
 module _ (B : ℕ) (big : 8 < B) where

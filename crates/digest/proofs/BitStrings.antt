@@ -15,17 +15,17 @@ use Rattle.answer.specs.declared.Refusal.{Refusal}
 use Rattle.answer.specs.declared.Refusal.the-variants.{BitCount}
 use Rattle.answer.specs.Refuse.{outcome}
 use Rattle.memory.specs.Bytes.{Bytes}
-use Rattle.digest.specs.Bits.{valueOf, bitsOf, bitString, packed, left, highest}
+use Rattle.digest.specs.Bits.{valueOf, bitsOf, bitString, packed, remainder, highest}
 use Rattle.digest.specs.Padding.{ending, marked}
 use Rattle.digest.specs.Blocks.{compressed}
 use Rattle.digest.specs.Refusals.{limit}
 use Rattle.digest.specs.Kind.{Kind, knownSize, narrowKind, wideKind}
 use Rattle.digest.specs.State.{Hash, formed, opened, openState, advanced, feedAll, cut, finishedBits, finishBitsAnswer, finishBitsOut}
 use Rattle.digest.specs.OneCall.{digestOf}
-use Rattle.digest.specs.BitDigest.{bitDigestOf, message, bitsAnswer, bitsOut}
+use Rattle.digest.specs.BitDigest.{bitDigestOf, message, bitDigestAnswer, bitDigestOut}
 use Rattle.digest.specs.Cutting.{concatenated, Written, finishesBits, inPiecesBits, accepted}
 use Rattle.digest.specs.BitStrings.{lastByte, Parts, BitStrings}
-use Rattle.digest.proofs.Bits.{value-lt, bits-value, length-highest, whole-left, packed-are, length-packed}
+use Rattle.digest.proofs.Bits.{value-lt, bits-value, length-highest, whole-remainder, packed-are, length-packed}
 use Rattle.digest.proofs.BitPadding.{packed-padded}
 use Rattle.digest.proofs.BitFinishing.{marked-none}
 use Rattle.digest.proofs.Feeding.{formed-advanced, advanced-size, advanced-total}
@@ -38,15 +38,15 @@ pub parts : (s : List Bool) → Parts s
 parts s =
     let c = length s % 8 in
     let z = replicate {A = Bool} (8 - c) false in
-    let n : length (left s) ≡ c = length-drop (8 * (length s / 8)) s ∙ omega arith in
-    let eight : length (left s ++ z) ≡ 8 = length-append (left s) z ∙ omega (arith, length-replicate {A = Bool} (8 - c) false) in
-    let v : bitsOf 8 (lastByte s) ≡ left s ++ z = ap (λ (j : ℕ). bitsOf j (lastByte s)) (sym eight) ∙ bits-value (left s ++ z) in
+    let n : length (remainder s) ≡ c = length-drop (8 * (length s / 8)) s ∙ omega arith in
+    let eight : length (remainder s ++ z) ≡ 8 = length-append (remainder s) z ∙ omega (arith, length-replicate {A = Bool} (8 - c) false) in
+    let v : bitsOf 8 (lastByte s) ≡ remainder s ++ z = ap (λ (j : ℕ). bitsOf j (lastByte s)) (sym eight) ∙ bits-value (remainder s ++ z) in
     record {
-      whole = whole-left s;
+      whole = whole-remainder s;
       bytes = packed-are (length s / 8) s;
       count = n;
-      byte = subst (λ (j : ℕ). lastByte s < 2 ^ j) eight (value-lt (left s ++ z));
-      bits = ap (take c) v ∙ take-at (left s) z c n;
+      byte = subst (λ (j : ℕ). lastByte s < 2 ^ j) eight (value-lt (remainder s ++ z));
+      bits = ap (take c) v ∙ take-at (remainder s) z c n;
     }
 
 module _ (k : Kind) (pos : 0 < k .block) (big : 8 < k .block) where
@@ -54,7 +54,7 @@ module _ (k : Kind) (pos : 0 < k .block) (big : 8 < k .block) where
 
   bit-digest : (n : ℕ) (m : List ℕ) → Bytes m → (last count : ℕ) → count ≤ 7
       → cut k n (compressed (k .block) (k .step) (k .start n) (m ++ ending (k .block) (length m) (marked last count) (8 * length m + count)))
-      ≡ bitDigestOf k n (message k m last count)
+      ≡ bitDigestOf k n (message m last count)
   unfolding bitDigestOf marked
   bit-digest n m are last count few =
       let u = highest count last in
@@ -74,16 +74,17 @@ module _ (k : Kind) (pos : 0 < k .block) (big : 8 < k .block) where
 
   module _ (last count : ℕ) (out : List ℕ) where
     abbrev called : ℕ → List ℕ → Written
-    called n m = record { answer = bitsAnswer k n m count out; out = bitsOut k n m last count out }
+    called n m = record { answer = bitDigestAnswer k n m count out; out = bitDigestOut k n m last count out }
 
-    refused-call : (n : ℕ) (m : List ℕ) {r : Refusal} → bitsAnswer k n m count out ≡ Refused r 0 → record { answer = Refused r 0; out = out } ≡ called n m
-    refused-call n m e = ap (λ (b : Answer). record { answer = b; out = outcome b (bitDigestOf k n (message k m last count) ++ drop (n / 8) out) out }) (sym e)
+    refused-call : (n : ℕ) (m : List ℕ) {r : Refusal} → bitDigestAnswer k n m count out ≡ Refused r 0 → record { answer = Refused r 0; out = out } ≡ called n m
+    refused-call n m e = ap (λ (b : Answer). record { answer = b; out = outcome b (bitDigestOf k n (message m last count) ++ drop (n / 8) out) out }) (sym e)
 
     refused-finish : (h : Hash) {r : Refusal} → finishBitsAnswer k h count out ≡ Refused r 0
         → finishesBits k last count out h ≡ record { answer = Refused r 0; out = out }
     refused-finish h e = ap (λ (b : Answer). record { answer = b; out = outcome b (finishedBits k h last count ++ drop (h .size / 8) out) out }) e
 
-    one-call : (n : ℕ) → knownSize k n ≡ true → (m : List ℕ) → Bytes m → length m ≤ limit → finishesBits k last count out (advanced k (opened k n) m) ≡ called n m
+    one-call : (n : ℕ) → knownSize k n ≡ true → (m : List ℕ) → Bytes m → length m ≤ limit
+        → finishesBits k last count out (advanced k (opened k n) m) ≡ called n m
     one-call n kn m are l = decided (decLe count 7)
       where
         h : Hash
@@ -95,7 +96,7 @@ module _ (k : Kind) (pos : 0 < k .block) (big : 8 < k .block) where
         z : h .size ≡ n
         z = advanced-size k pos (opened k n) m
 
-        digests : count ≤ 7 → finishedBits k h last count ≡ bitDigestOf k n (message k m last count)
+        digests : count ≤ 7 → finishedBits k h last count ≡ bitDigestOf k n (message m last count)
         digests few =
             ap₂ {C = List ℕ} (λ a b. cut k a b) z
             (closed-is k pos n m (marked last count) (8 * h .total + count)
@@ -105,7 +106,7 @@ module _ (k : Kind) (pos : 0 < k .block) (big : 8 < k .block) where
 
         decided : Dec (count ≤ 7) → finishesBits k last count out h ≡ called n m
         decided (yes few) =
-            let a : finishBitsAnswer k h count out ≡ bitsAnswer k n m count out = rw (kn, le-leb _ _ l, f, z) in
+            let a : finishBitsAnswer k h count out ≡ bitDigestAnswer k n m count out = rw (kn, le-leb _ _ l, f, z) in
             let d = digests few in
             λ i. record { answer = a i; out = outcome (a i) (d i ++ drop (z i / 8) out) out }
         decided (no many) =
@@ -121,8 +122,8 @@ module _ (k : Kind) (pos : 0 < k .block) (big : 8 < k .block) where
       (λ kn l. one-call last count out n kn m are l)
 
   goes-on : (n : ℕ) (ss : List (List ℕ)) (last count : ℕ) (out : List ℕ) → knownSize k n ≡ true → Bytes (accepted k (openState k n) ss)
-      → (finishBitsAnswer k (feedAll k (openState k n) ss) count out ≡ bitsAnswer k n (accepted k (openState k n) ss) count out)
-      × (finishBitsOut k (feedAll k (openState k n) ss) last count out ≡ bitsOut k n (accepted k (openState k n) ss) last count out)
+      → (finishBitsAnswer k (feedAll k (openState k n) ss) count out ≡ bitDigestAnswer k n (accepted k (openState k n) ss) count out)
+      × (finishBitsOut k (feedAll k (openState k n) ss) last count out ≡ bitDigestOut k n (accepted k (openState k n) ss) last count out)
   goes-on n ss last count out kn are =
       let x = fed-state k pos n ss kn in
       let e = ap (finishesBits k last count out) (x .0) ∙ one-call last count out n kn (accepted k (openState k n) ss) are (x .1) in
@@ -131,15 +132,15 @@ module _ (k : Kind) (pos : 0 < k .block) (big : 8 < k .block) where
   -- ---- every bit string
 
   every : (n : ℕ) (s : List Bool) (ss : List (List ℕ)) (last : ℕ) (out : List ℕ) → knownSize k n ≡ true → length s ≤ 2 ^ 64 - 1
-      → concatenated ss ≡ packed s → highest (length s % 8) last ≡ left s → n / 8 ≤ length out
+      → concatenated ss ≡ packed s → highest (length s % 8) last ≡ remainder s → n / 8 ≤ length out
       → inPiecesBits k n ss last (length s % 8) out ≡ record { answer = Done (n / 8); out = bitDigestOf k n s ++ drop (n / 8) out }
   every n s ss last out kn l es el room =
       let c = length s % 8 in
       let m = packed s in
       let lm : length m ≤ limit = omega (arith, length-packed s) in
       let few : c ≤ 7 = omega arith in
-      let a : bitsAnswer k n m c out ≡ Done (n / 8) = rw (kn, le-leb _ _ lm, le-leb _ _ few, le-leb _ _ room) in
-      let i : message k m last c ≡ s = ap (λ (u : List Bool). bitString m ++ u) el ∙ whole-left s in
+      let a : bitDigestAnswer k n m c out ≡ Done (n / 8) = rw (kn, le-leb _ _ lm, le-leb _ _ few, le-leb _ _ room) in
+      let i : message m last c ≡ s = ap (λ (u : List Bool). bitString m ++ u) el ∙ whole-remainder s in
       whole n ss last c out (subst Bytes (sym es) (packed-are (length s / 8) s)) ∙ ap (called last c out n) es
       ∙ ap₂ {C = Written} (λ b t. record { answer = b; out = outcome b (bitDigestOf k n t ++ drop (n / 8) out) out }) a i
 

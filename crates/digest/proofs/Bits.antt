@@ -10,7 +10,7 @@ use lib.ListN.{length, take, drop, replicate, length-append, length-take, length
 use lib.Pow.{pow-mono, pow-add, shr-shr, high, low, field, mod-pow-add, mod-mod-pow}
 use lib.Seq.{take-at, drop-at, drop-drop, length-take-le}
 use Rattle.memory.specs.Bytes.{Bytes}
-use Rattle.digest.specs.Bits.{valueOf, bitsOf, bitString, firstBytes, packed, left, highest}
+use Rattle.digest.specs.Bits.{valueOf, bitsOf, bitString, firstBytes, packed, remainder, highest}
 
 -- a bit as a number
 abbrev bit : Bool → ℕ
@@ -152,8 +152,8 @@ bytes-rest (suc n) s h =
     ∙ ap₂ {C = List Bool} (λ (a c : List Bool). a ++ (bitString (firstBytes n (drop 8 s)) ++ c)) b r
     ∙ ap (λ (c : List Bool). take 8 s ++ c) (bytes-rest n (drop 8 s) (omega (arith, length-drop 8 s))) ∙ take-append-drop 8 s
 
-pub whole-left : (s : List Bool) → bitString (packed s) ++ left s ≡ s
-whole-left s = bytes-rest (length s / 8) s (omega arith)
+pub whole-remainder : (s : List Bool) → bitString (packed s) ++ remainder s ≡ s
+whole-remainder s = bytes-rest (length s / 8) s (omega arith)
 
 pub packed-are : (n : ℕ) (s : List Bool) → Bytes (firstBytes n s)
 packed-are zero s i = omega arith

@@ -19,8 +19,8 @@ use Rattle.digest.specs.State.{Hash, formed, opened, zeros, openAnswer, 
 use Rattle.digest.specs.State.{finished, finishAnswer, finishOut}
 use Rattle.digest.specs.OneCall.{digestOf, digestAnswer, digestOut}
 use Rattle.digest.specs.Waiting.{Held, Clean}
-use Rattle.digest.specs.Cutting.{concatenated, Written, finishes, fedAnd, openedAnd, inPieces, accepted, Call, feed, finish, finishBits, pieces, afterCalls}
-use Rattle.digest.specs.Cutting.{Cutting, CuttingOneCall}
+use Rattle.digest.specs.Cutting.{concatenated, Written, finishes, fedAnd, openedAnd, inPieces, accepted, Cutting, CuttingOneCall}
+use Rattle.digest.specs.Cutting.{Call, feed, finish, finishBits, pieces, afterCalls}
 use Rattle.answer.proofs.Tests.{decide}
 use Rattle.digest.proofs.Feeding.{held, clean, held-opened, clean-opened, feed-done, feed-state, feed-length, left-done, formed-total, formed-advanced}
 use Rattle.digest.proofs.Feeding.{advanced-size, advanced-total, advanced-twice, advanced-nothing}
@@ -28,7 +28,8 @@ use Rattle.digest.proofs.Opened.{open-done, formed-opened, finished-is}
 
 module _ (k : Kind) (pos : 0 < k .block) where
   -- ---- any pieces are the concatenated piece, whatever a finishing is, if only it refuses a state that is not in form
-  module _ (finish : Hash → Written) (out : List ℕ) (unformed : (h : Hash) → formed k h ≡ false → finish h ≡ record { answer = Refused State 0; out = out }) where
+  module _ (finish : Hash → Written) (out : List ℕ)
+      (unformed : (h : Hash) → formed k h ≡ false → finish h ≡ record { answer = Refused State 0; out = out }) where
     abbrev one : Hash → List ℕ → Written
     one h s = fedAnd k finish h (s ∷ []) out
 
@@ -198,7 +199,8 @@ module _ (k : Kind) (pos : 0 < k .block) where
   fits : (n : ℕ) (ss : List (List ℕ)) → length (accepted k (openState k n) ss) ≤ limit
   fits n ss =
       let z : openState k n .total ≡ 0 =
-      decide (knownSize k n) (λ e. ap (λ (h : Hash). h .total) (open-done k pos n e)) (λ e. ap (λ (b : Bool). outcome (unless b Size (Done 0)) (opened k n) (zeros k) .total) e) in
+      decide (knownSize k n) (λ e. ap (λ (h : Hash). h .total) (open-done k pos n e))
+      (λ e. ap (λ (b : Bool). outcome (unless b Size (Done 0)) (opened k n) (zeros k) .total) e) in
       let i = accepted-fits ss (openState k n) (rw z (lit≤ tt)) in
       omega arith
 

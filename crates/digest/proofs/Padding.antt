@@ -3,7 +3,8 @@ use mathlib.Core.Path.{_≡_, refl, ap, sym, _∙_}
 use mathlib.Core.Logic.{⊎-elim}
 use mathlib.Core.List.{List}
 use Prim.Native.Nat.{ℕ, _+_, _-_, _*_, _/_, _%_, _≤_, _<_}
-use native.Mathlib.Nat.{zero-add, add-assoc, mod-lt, mod-eq-of-lt, mod-self, mod-add-mod, add-mod-right, eq-or-lt-of-le, sub-zero, div-add-mod', add-mul-mod-self-right}
+use native.Mathlib.Nat.{zero-add, sub-zero, mod-lt, mod-eq-of-lt, mod-self, mod-add-mod, add-mod-right, add-mul-mod-self-right, div-add-mod'}
+use native.Mathlib.Nat.{eq-or-lt-of-le}
 use native.Mathlib.Decide.{decLe}
 use native.Mathlib.Omega.{arith}
 use lib.ListN.{length}

@@ -11,18 +11,18 @@ use Rattle.digest.specs.Blocks.{compressed, lastBytes}
 use Rattle.digest.specs.Refusals.{digestingBits}
 use Rattle.digest.specs.Kind.{Kind}
 
+-- the bits of the bytes m, and then the count highest bits of a last byte
+abbrev pub message : List ℕ → ℕ → ℕ → List Bool
+message m last count = bitString m ++ highest count last
+
 module _ (k : Kind) where
   -- the last n/8 bytes of the pipe behind all blocks of the padded string
   unfoldable pub bitDigestOf : ℕ → List Bool → List ℕ
   bitDigestOf n s = lastBytes (n / 8) (k .written (compressed (k .block) (k .step) (k .start n) (packed (paddedBits (8 * k .block) s))))
 
-  -- the bits of the bytes m, and then the count highest bits of a last byte
-  abbrev pub message : List ℕ → ℕ → ℕ → List Bool
-  message m last count = bitString m ++ highest count last
-
   -- what a caller is answered and finds written who opens a hash, feeds it m and finishes with a last byte and a count of its bits
-  abbrev pub bitsAnswer : ℕ → List ℕ → ℕ → List ℕ → Answer
-  bitsAnswer n m count out = digestingBits (k .small) (k .large) n (length m) count (length out)
+  abbrev pub bitDigestAnswer : ℕ → List ℕ → ℕ → List ℕ → Answer
+  bitDigestAnswer n m count out = digestingBits (k .small) (k .large) n (length m) count (length out)
 
-  abbrev pub bitsOut : ℕ → List ℕ → ℕ → ℕ → List ℕ → List ℕ
-  bitsOut n m last count out = outcome (bitsAnswer n m count out) (bitDigestOf n (message m last count) ++ drop (n / 8) out) out
+  abbrev pub bitDigestOut : ℕ → List ℕ → ℕ → ℕ → List ℕ → List ℕ
+  bitDigestOut n m last count out = outcome (bitDigestAnswer n m count out) (bitDigestOf n (message m last count) ++ drop (n / 8) out) out

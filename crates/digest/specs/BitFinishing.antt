@@ -11,7 +11,7 @@ use Rattle.answer.specs.Refuse.{isDone}
 use Rattle.digest.specs.Refusals.{limit}
 use Rattle.digest.specs.Kind.{Kind, knownSize}
 use Rattle.digest.specs.State.{Hash, formed, finishAnswer, finishOut, finishBitsAnswer, finishBitsOut}
-use Rattle.digest.specs.BitDigest.{message, bitsAnswer}
+use Rattle.digest.specs.BitDigest.{message, bitDigestAnswer}
 
 -- It refuses with 2, then with 15 if the count is above 7, then with 4, and else not; a refusal leaves the output as it was
 pub record BitRefuses (k : Kind) (h : Hash) (last count : ℕ) (out : List ℕ) : Type 0 where
@@ -32,4 +32,4 @@ pub record BitFinishing (k : Kind) : Type 0 where
   -- no accepted finishing has more than 2^64 - 1 bits, and 2^61 - 1 bytes with 7 bits are accepted and have just as many
   pub most : (h : Hash) (count : ℕ) (out : List ℕ) → isDone (finishBitsAnswer k h count out) ≡ true → 8 * h .total + count ≤ 2 ^ 64 - 1
   pub largest : (n : ℕ) (m : List ℕ) (last : ℕ) (out : List ℕ) → knownSize k n ≡ true → length m ≡ limit → n / 8 ≤ length out
-      → (bitsAnswer k n m 7 out ≡ Done (n / 8)) × (length (message k m last 7) ≡ 2 ^ 64 - 1)
+      → (bitDigestAnswer k n m 7 out ≡ Done (n / 8)) × (length (message m last 7) ≡ 2 ^ 64 - 1)

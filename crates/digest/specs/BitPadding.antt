@@ -19,7 +19,7 @@ pub record BitPadding (B : ℕ) : Type 0 where
   pub blocks : (s : List Bool) → length (paddedBits (8 * B) s) % (8 * B) ≡ 0
   -- with the fewest zeros
   pub fewest : (l : ℕ) → Fewest (8 * B) 64 l
-  -- behind t bytes and some bits: the zeros to the end of the byte, and eight for each zero byte behind t bytes. So no count needs a block more than the count 0
+  -- behind t bytes and some bits: the zeros to the end of the byte, and eight for each zero byte behind t bytes. So no count needs a block more than 0
   pub zeros : (t count : ℕ) → count ≤ 7 → gap (8 * B) 64 (8 * t + count) ≡ 7 - count + 8 * gap B 8 t
 
 -- read again, the 8 bytes are the number of bits

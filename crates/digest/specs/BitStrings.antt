@@ -7,24 +7,24 @@ use Prim.Native.Nat.{ℕ, _-_, _/_, _%_, _^_, _≤_, _<_}
 use lib.ListN.{length, drop, replicate}
 use Rattle.answer.specs.declared.Answer.the-variants.{Done}
 use Rattle.memory.specs.Bytes.{Bytes}
-use Rattle.digest.specs.Bits.{valueOf, bitString, packed, left, highest}
+use Rattle.digest.specs.Bits.{valueOf, bitString, packed, remainder, highest}
 use Rattle.digest.specs.Kind.{Kind, knownSize}
 use Rattle.digest.specs.State.{openState, feedAll, finishBitsAnswer, finishBitsOut}
 use Rattle.digest.specs.OneCall.{digestOf}
-use Rattle.digest.specs.BitDigest.{bitDigestOf, bitsAnswer, bitsOut}
+use Rattle.digest.specs.BitDigest.{bitDigestOf, bitDigestAnswer, bitDigestOut}
 use Rattle.digest.specs.Cutting.{concatenated, inPiecesBits, accepted}
 
 -- a byte that begins with what is left of a bit string behind its whole bytes
 abbrev pub lastByte : List Bool → ℕ
-lastByte s = valueOf (left s ++ replicate (8 - length s % 8) false)
+lastByte s = valueOf (remainder s ++ replicate (8 - length s % 8) false)
 
 -- a bit string is its whole bytes and what is left, fewer than eight bits, which are the highest of a byte
 pub record Parts (s : List Bool) : Type 0 where
-  pub whole : bitString (packed s) ++ left s ≡ s
+  pub whole : bitString (packed s) ++ remainder s ≡ s
   pub bytes : Bytes (packed s)
-  pub count : length (left s) ≡ length s % 8
+  pub count : length (remainder s) ≡ length s % 8
   pub byte : lastByte s < 256
-  pub bits : highest (length s % 8) (lastByte s) ≡ left s
+  pub bits : highest (length s % 8) (lastByte s) ≡ remainder s
 
 pub record BitStrings (k : Kind) : Type 0 where
   -- the digest of document 01 is that of the bits of its bytes
@@ -33,13 +33,13 @@ pub record BitStrings (k : Kind) : Type 0 where
   -- their bytes and then the count highest bits of the last byte
   pub whole : (n : ℕ) (ss : List (List ℕ)) (last count : ℕ) (out : List ℕ) → Bytes (concatenated ss)
       → inPiecesBits k n ss last count out
-      ≡ record { answer = bitsAnswer k n (concatenated ss) count out; out = bitsOut k n (concatenated ss) last count out }
+      ≡ record { answer = bitDigestAnswer k n (concatenated ss) count out; out = bitDigestOut k n (concatenated ss) last count out }
   -- a caller who goes on behind refused feedings gets that of the accepted pieces
   pub goesOn : (n : ℕ) (ss : List (List ℕ)) (last count : ℕ) (out : List ℕ) → knownSize k n ≡ true → Bytes (accepted k (openState k n) ss)
-      → (finishBitsAnswer k (feedAll k (openState k n) ss) count out ≡ bitsAnswer k n (accepted k (openState k n) ss) count out)
-      × (finishBitsOut k (feedAll k (openState k n) ss) last count out ≡ bitsOut k n (accepted k (openState k n) ss) last count out)
+      → (finishBitsAnswer k (feedAll k (openState k n) ss) count out ≡ bitDigestAnswer k n (accepted k (openState k n) ss) count out)
+      × (finishBitsOut k (feedAll k (openState k n) ss) last count out ≡ bitDigestOut k n (accepted k (openState k n) ss) last count out)
   -- And the other way round, for every bit string: its whole bytes fed in any cut, and finishing with a byte that begins with what is left, write its digest.
   -- `Parts` has such a byte
   pub every : (n : ℕ) (s : List Bool) (ss : List (List ℕ)) (last : ℕ) (out : List ℕ) → knownSize k n ≡ true → length s ≤ 2 ^ 64 - 1
-      → concatenated ss ≡ packed s → highest (length s % 8) last ≡ left s → n / 8 ≤ length out
+      → concatenated ss ≡ packed s → highest (length s % 8) last ≡ remainder s → n / 8 ≤ length out
       → inPiecesBits k n ss last (length s % 8) out ≡ record { answer = Done (n / 8); out = bitDigestOf k n s ++ drop (n / 8) out }

@@ -30,8 +30,8 @@ abbrev pub packed : List Bool → List ℕ
 packed s = firstBytes (length s / 8) s
 
 -- the bits behind them, fewer than eight
-abbrev pub left : List Bool → List Bool
-left s = drop (8 * (length s / 8)) s
+abbrev pub remainder : List Bool → List Bool
+remainder s = drop (8 * (length s / 8)) s
 
 -- the count highest bits of a byte
 abbrev pub highest : ℕ → ℕ → List Bool
