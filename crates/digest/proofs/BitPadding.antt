@@ -3,7 +3,8 @@ use mathlib.Core.Path.{_≡_, refl, ap, ap₂, sym, subst, _∙_}
 use mathlib.Core.Bool.{Bool, true, false}
 use mathlib.Core.List.{List, [], _∷_, _++_, append-assoc, append-nil}
 use Prim.Native.Nat.{ℕ, zero, suc, _+_, _-_, _*_, _/_, _%_, _^_, _≤_, _<_}
-use native.Mathlib.Nat.{one-mul, mod-lt, mod-eq-of-lt, div-add-mod', div-mul-le-self, add-mul-mod-self-right, mul-left-comm}
+use native.Mathlib.Nat.{one-mul, mul-left-comm, mod-lt, mod-eq-of-lt, mod-self, mod-add-mod, add-mod-right, add-mul-mod-self-right, div-add-mod'}
+use native.Mathlib.Nat.{div-mul-le-self}
 use native.Mathlib.Decide.{decLe}
 use native.Mathlib.Omega.{arith}
 use lib.ListN.{length, replicate, length-append, length-replicate, replicate-append-replicate}
@@ -81,11 +82,44 @@ module _ (B : ℕ) (big : 8 < B) where
             let b = gap-far (8 * B) 64 (omega arith) (8 * t + count) (omega arith) in
             omega arith
 
+  -- ---- 64 bits before the end of a block, as 001 has it, and its end
+
+  sixty-four-behind : (x : ℕ) → x % (8 * B) ≡ 8 * B - 64 → (x + 64) % (8 * B) ≡ 0
+  sixty-four-behind x e =
+      let n : 8 * B - 64 + 64 ≡ 8 * B = omega arith in
+      sym (mod-add-mod x (8 * B) 64) ∙ ap (λ (j : ℕ). (j + 64) % (8 * B)) e ∙ ap (λ (j : ℕ). j % (8 * B)) n ∙ mod-self (8 * B)
+
+  sixty-four-before : (x : ℕ) → (x + 64) % (8 * B) ≡ 0 → x % (8 * B) ≡ 8 * B - 64
+  sixty-four-before x e = decided (decLe (8 * B) (x % (8 * B) + 64))
+    where
+      f : (x % (8 * B) + 64) % (8 * B) ≡ 0
+      f = mod-add-mod x (8 * B) 64 ∙ e
+
+      decided : Dec (8 * B ≤ x % (8 * B) + 64) → x % (8 * B) ≡ 8 * B - 64
+      decided (no h) =
+          let l : x % (8 * B) + 64 < 8 * B = omega arith in
+          let g : x % (8 * B) + 64 ≡ 0 = sym (mod-eq-of-lt l) ∙ f in
+          omega arith
+      decided (yes h) =
+          let r = mod-lt x {m = 8 * B} (omega arith) in
+          let n : ℕ = x % (8 * B) + 64 - 8 * B in
+          let l : n < 8 * B = omega arith in
+          let s : x % (8 * B) + 64 ≡ n + 8 * B = omega arith in
+          let g : n ≡ 0 = sym (mod-eq-of-lt l) ∙ sym (add-mod-right n (8 * B)) ∙ ap (λ (j : ℕ). j % (8 * B)) (sym s) ∙ f in
+          omega arith
+
   -- ---- the padded string
 
   pub bit-padding : BitPadding B
   unfolding paddedBits
-  bit-padding = record { blocks = blocks; fewest = λ l. fewest (8 * B) 64 (omega arith) l; zeros = gap-bits }
+  bit-padding =
+      record {
+        blocks = blocks;
+        fewest = fewest (8 * B) 64 (omega arith);
+        solves = λ l. sixty-four-before (l + 1 + gap (8 * B) 64 l) (fewest (8 * B) 64 (omega arith) l .ends);
+        smallest = λ l k e. fewest (8 * B) 64 (omega arith) l .fewest k (sixty-four-behind (l + 1 + k) e);
+        zeros = gap-bits;
+      }
     where
       blocks : (s : List Bool) → length (paddedBits (8 * B) s) % (8 * B) ≡ 0
       blocks s =

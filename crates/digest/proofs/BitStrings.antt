@@ -1,6 +1,6 @@
 -- Agreement over bit strings: the theorem of specs/BitStrings.antt, for every kind, and so for the narrow and the wide one.
-use mathlib.Core.Path.{_≡_, refl, ap, ap₂, sym, subst, _∙_}
-use mathlib.Core.Bool.{Bool, true, false}
+use mathlib.Core.Path.{_≡_, ap, ap₂, sym, subst, _∙_}
+use mathlib.Core.Bool.{Bool, true, false, cond}
 use mathlib.Core.List.{List, [], _∷_, _++_, append-nil}
 use Prim.Native.Nat.{ℕ, _+_, _-_, _*_, _/_, _%_, _^_, _≤_, _<_}
 use native.Mathlib.Nat.{zero-add}
@@ -22,17 +22,21 @@ use Rattle.digest.specs.Refusals.{limit}
 use Rattle.digest.specs.Kind.{Kind, knownSize, narrowKind, wideKind}
 use Rattle.digest.specs.State.{Hash, formed, opened, openState, advanced, feedAll, cut, finishedBits, finishBitsAnswer, finishBitsOut}
 use Rattle.digest.specs.OneCall.{digestOf}
-use Rattle.digest.specs.BitDigest.{bitDigestOf, message, bitDigestAnswer, bitDigestOut}
+use Rattle.digest.specs.BitDigest.{bitDigestOf}
+use Rattle.digest.specs.BitMessage.{message, bitDigestAnswer, bitDigestOut}
 use Rattle.digest.specs.Cutting.{concatenated, Written, finishesBits, inPiecesBits, accepted}
-use Rattle.digest.specs.BitStrings.{lastByte, Parts, BitStrings}
-use Rattle.digest.proofs.Bits.{value-lt, bits-value, length-highest, whole-remainder, packed-are, length-packed}
+use Rattle.digest.specs.BitStrings.{lastByte, PackedBytes, Parts, BitStrings, OneCallBits}
+use Rattle.digest.proofs.Bits.{value-lt, bits-value, length-highest, whole-remainder, packed-bytes, packed-are, length-packed}
 use Rattle.digest.proofs.BitPadding.{packed-padded}
 use Rattle.digest.proofs.BitFinishing.{marked-none}
 use Rattle.digest.proofs.Feeding.{formed-advanced, advanced-size, advanced-total}
 use Rattle.digest.proofs.Opened.{formed-opened, closed-is}
 use Rattle.digest.proofs.Cutting.{opened-joined, fed-state}
 
--- ---- a bit string in parts
+-- ---- a bit string in bytes, and in parts
+
+pub packed-again : PackedBytes
+packed-again m are = ap packed (sym (append-nil (bitString m))) ∙ packed-bytes m [] are ∙ append-nil m
 
 pub parts : (s : List Bool) → Parts s
 parts s =
@@ -152,3 +156,10 @@ narrow-bit-strings = bit-strings narrowKind (omega arith) (omega arith)
 
 pub wide-bit-strings : BitStrings wideKind
 wide-bit-strings = bit-strings wideKind (omega arith) (omega arith)
+
+pub one-call-bits : OneCallBits
+one-call-bits n m are = by (knownSize wideKind n)
+  where
+    by : (b : Bool) → digestOf (cond b wideKind narrowKind) n m ≡ bitDigestOf (cond b wideKind narrowKind) n (bitString m)
+    by true = wide-bit-strings .ofBytes n m are
+    by false = narrow-bit-strings .ofBytes n m are

@@ -11,7 +11,7 @@ use Rattle.answer.specs.Refuse.{isDone}
 use Rattle.digest.specs.Refusals.{limit}
 use Rattle.digest.specs.Kind.{Kind, knownSize}
 use Rattle.digest.specs.State.{Hash, formed, finishAnswer, finishOut, finishBitsAnswer, finishBitsOut}
-use Rattle.digest.specs.BitDigest.{message, bitDigestAnswer}
+use Rattle.digest.specs.BitMessage.{message, bitDigestAnswer}
 
 -- It refuses with 2, then with 15 if the count is above 7, then with 4, and else not; a refusal leaves the output as it was
 pub record BitRefuses (k : Kind) (h : Hash) (last count : ℕ) (out : List ℕ) : Type 0 where
@@ -23,11 +23,12 @@ pub record BitRefuses (k : Kind) (h : Hash) (last count : ℕ) (out : List ℕ) 
 
 pub record BitFinishing (k : Kind) : Type 0 where
   pub refuses : (h : Hash) (last count : ℕ) (out : List ℕ) → BitRefuses k h last count out
-  -- the other bits of the last byte do not matter: two bytes that begin with the same count bits are as good as each other
-  pub otherBits : (h : Hash) (last same count : ℕ) (out : List ℕ) → last / 2 ^ (8 - count) ≡ same / 2 ^ (8 - count)
-      → finishBitsOut k h last count out ≡ finishBitsOut k h same count out
+  -- The other bits of the last byte do not matter: bytes that agree when they are shifted to the right by 8 - count, that is in their count highest bits, write
+  -- the same. The answer does not depend on the last byte at all
+  pub otherBits : (h : Hash) (last other count : ℕ) (out : List ℕ) → last / 2 ^ (8 - count) ≡ other / 2 ^ (8 - count)
+      → finishBitsOut k h last count out ≡ finishBitsOut k h other count out
   -- the count 0 is the finishing of document 01, whatever the last byte
-  pub none : (h : Hash) (last : ℕ) (out : List ℕ)
+  pub noBits : (h : Hash) (last : ℕ) (out : List ℕ)
       → (finishBitsAnswer k h 0 out ≡ finishAnswer k h out) × (finishBitsOut k h last 0 out ≡ finishOut k h out)
   -- no accepted finishing has more than 2^64 - 1 bits, and 2^61 - 1 bytes with 7 bits are accepted and have just as many
   pub most : (h : Hash) (count : ℕ) (out : List ℕ) → isDone (finishBitsAnswer k h count out) ≡ true → 8 * h .total + count ≤ 2 ^ 64 - 1

@@ -1,4 +1,4 @@
--- Bit strings, first bit first, and their bytes: eight bits a byte, the first of them the highest.
+-- Bit strings, first bit first, and their bytes: eight bits a byte, the first of them the highest, as 001 draws "abc" in section 1.4.1.
 use mathlib.Core.Bool.{Bool, cond}
 use mathlib.Core.List.{List, [], _∷_, _++_}
 use Prim.Native.Nat.{ℕ, zero, suc, _+_, _*_, _/_, _%_, _^_}

@@ -63,7 +63,7 @@ pieces (feed s ∷ cs) = s ∷ pieces cs
 pieces (finish out ∷ cs) = pieces cs
 pieces (finishBits last count out ∷ cs) = pieces cs
 
--- the state after a list of calls: a finishing leaves it as it is
+-- the state after a list of calls: a finishing leaves it as it is, since it takes the state by value, or for C by a reference through which nothing is written
 abbrev pub afterCalls : Kind → Hash → List Call → Hash
 afterCalls k h [] = h
 afterCalls k h (feed s ∷ cs) = afterCalls k (feedState k h s) cs

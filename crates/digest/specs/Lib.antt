@@ -10,6 +10,7 @@ pub mod Kind
 pub mod State
 pub mod OneCall
 pub mod BitDigest
+pub mod BitMessage
 pub mod Cutting
 pub mod BitFinishing
 pub mod BitStrings

@@ -7,8 +7,8 @@ use lib.ListN.{length, replicate}
 use Rattle.memory.specs.Bytes.{bytes}
 use Rattle.digest.specs.Bits.{valueOf, highest}
 
--- How many zeros, in units that are bytes here and bits in BitPadding.antt: behind t units stand one unit, these, and e units of the length, to the end of
--- a block of B
+-- The number of zeros, counted in units: bytes here, bits in BitPadding.antt. Behind t units of the message stand one unit with the one bit, these zeros, and
+-- e units of the length, to the end of a block of B units
 abbrev pub gap : ℕ → ℕ → ℕ → ℕ
 gap B e t = (B - (t + 1 + e) % B) % B
 
@@ -23,7 +23,7 @@ padding B t = ending B t 0x80 (8 * t)
 abbrev pub padded : ℕ → List ℕ → List ℕ
 padded B m = m ++ padding B (length m)
 
--- the byte with the single one bit, where a message ends inside it: the count highest bits of its last byte, the one bit, and zeros
+-- the byte with the single one bit, where a message ends inside it: the count highest bits of its last byte, at most 7, the one bit, and zeros
 unfoldable pub marked : ℕ → ℕ → ℕ
 marked last count = valueOf (highest count last ++ true ∷ replicate (7 - count) false)
 

@@ -7,7 +7,7 @@ use Rattle.answer.specs.declared.Answer.the-variants.{Done}
 use Rattle.answer.specs.Refuse.{unless}
 use Rattle.answer.specs.declared.Refusal.the-variants.{Size, State, Length, Output, BitCount}
 
--- the largest total of bytes, whose length in bits still fits in 64
+-- the largest total of bytes: its length in bits, with 7 bits more, still fits in 64
 abbrev pub limit : ℕ
 limit = 2 ^ 61 - 1
 
@@ -43,7 +43,7 @@ finishingBits small large n total count room = unless (inForm small large n tota
 abbrev pub digesting : ℕ → ℕ → ℕ → ℕ → ℕ → Answer
 digesting small large n len room = unless (isSize small large n) Size (unless (leb len limit) Length (delivering n room))
 
--- the digest of len bytes and count bits
+-- opening, feeding len bytes and finishing with count bits of a last byte, by a caller who stops at the first refusal
 abbrev pub digestingBits : ℕ → ℕ → ℕ → ℕ → ℕ → ℕ → Answer
 digestingBits small large n len count room =
     unless (isSize small large n) Size (unless (leb len limit) Length (unless (leb count 7) BitCount (delivering n room)))

@@ -25,7 +25,8 @@ pub fn tail(buf: &mut [u8], w: &[u8], block: usize, mark: u8, bits: u64) -> usiz
     size
 }
 
-// The byte of the one bit, where a message ends with the `count` highest bits of `last`: these, the one bit, and zeros.
+// The byte of the one bit, where a message ends with the `count` highest bits of `last`: these, the one bit, and zeros. `down` bits of `last` are shifted out,
+// and `rest` zeros follow the one bit.
 pub fn marked(last: u8, count: u32) -> u8
     requires { ⌜ count ≤ 7 ⌝ }
     ensures { λ r. ⌜ r ≡ marked last count ⌝ }

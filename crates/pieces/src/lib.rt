@@ -58,7 +58,7 @@ pub fn narrow_finish(hash: Narrow, out: &mut [u8]) -> u64
     ensures { λ r. ⌜ (r ≡ numberOf (finishAnswer narrowKind (ofNarrow hash) (now (out .entry))))
         × (now (out .exit) ≡ finishOut narrowKind (ofNarrow hash) (now (out .entry))) ⌝ }
 {
-    answer::number(narrow::finish(hash, 0, 0, out))
+    narrow_finish_bits(hash, 0, 0, out)
 }
 
 // The same, with the `count` highest bits of `last` behind what was fed.
@@ -106,7 +106,7 @@ pub fn wide_finish(hash: Wide, out: &mut [u8]) -> u64
     ensures { λ r. ⌜ (r ≡ numberOf (finishAnswer wideKind (ofWide hash) (now (out .entry))))
         × (now (out .exit) ≡ finishOut wideKind (ofWide hash) (now (out .entry))) ⌝ }
 {
-    answer::number(wide::finish(hash, 0, 0, out))
+    wide_finish_bits(hash, 0, 0, out)
 }
 
 // The same, with the `count` highest bits of `last` behind what was fed.

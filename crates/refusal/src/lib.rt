@@ -65,7 +65,7 @@ fn delivering(size: u64, room: usize) -> Answer
     Answer::Refused(Refusal::Output, 0)
 }
 
-// The tests that follow that of the state are made first, and then looked at in their order.
+// Both tests behind that of the state are locals, so that the order of the refusals is the order of the three ifs and nothing else.
 pub fn finishing(small: u64, large: u64, size: u64, total: u64, count: u32, room: usize) -> Answer
     ensures { λ r. ⌜ r ≡ finishingBits small large size total count room ⌝ }
 {

@@ -48,8 +48,8 @@ use denote.Triple.Walked.{says, Stay, Stays, stay-none-ref, gave-slice, hasOf, w
 use Rattle.walk.proofs.Types.{Types, S, R, S-mir, state-val}
 use Rattle.walk.proofs.Numbers.{Numbers, Fit, locals-then, copies-then, vals-then, past, from-past}
 use Rattle.walk.proofs.Numbers.{alloc-numbers, pass-numbers, load-numbers, free-numbers}
-use Rattle.walk.proofs.Slots.{slots, kepts, stays, all-go, rows, numbers, last, args, spells, tells, values, flat-values, flat-args}
-use Rattle.walk.proofs.Slots.{all-fit, last-is, to-last, from-last, bind, seen, seen-bound, bound-fits, had, told}
+use Rattle.walk.proofs.Slots.{slots, kepts, stays, all-go, rows, numbers, final, args, spells, tells, values, flat-values, flat-args}
+use Rattle.walk.proofs.Slots.{all-fit, final-is, to-final, from-final, bind, seen, seen-bound, bound-fits, had, told}
 
 -- the slice as a parameter of f and of g, and what f's proof has of it at exit
 abbrev out : Slot 2
@@ -112,14 +112,14 @@ module _ (T : Types) (ws : List Width) where
       clauses κs a = record {
         ghost = Unit {0};
         requires = λ _. emp 𝓤;
-        ensures = λ _ r e. fact 𝓤 (Good (now (a .0)) (numbers out κs ws (a .1)) (now (last out κs ws (a .1))) r (now (seen out κs yes ws (e .1))));
+        ensures = λ _ r e. fact 𝓤 (Good (now (a .0)) (numbers out κs ws (a .1)) (now (final out κs ws (a .1))) r (now (seen out κs yes ws (e .1))));
       }
 
       abbrev clauses-g : Clauses 𝓤 ended-g
       clauses-g κs a = record {
         ghost = Unit {0};
         requires = λ _. emp 𝓤;
-        ensures = λ _ r e. fact 𝓤 (Good (a .0) (numbers out-g κs ws (a .1)) (now (last out-g κs ws (a .1))) r (now (seen out-g κs yes ws (e .1))));
+        ensures = λ _ r e. fact 𝓤 (Good (a .0) (numbers out-g κs ws (a .1)) (now (final out-g κs ws (a .1))) r (now (seen out-g κs yes ws (e .1))));
       }
 
     -- g's contract
@@ -145,7 +145,7 @@ module _ (T : Types) (ws : List Width) where
       xs = numbers out κs ws a
 
       abbrev y : RefT (List ℕ)
-      y = last out κs ws a
+      y = final out κs ws a
 
       abbrev v : Val
       v = sliceVal (y .ptr) (length (now y))
@@ -186,7 +186,7 @@ module _ (T : Types) (ws : List Width) where
       asks : Fit ws xs → ent 𝓤 (⋆ 𝓤 H A Gives) (Value 𝓤 H A .pre to)
       asks fits =
           qed W Gives ∵ move ! (2 ∷ []) $ use1 W (‵ (owns (rows out-g κs-g ws) a-g (values out-g κs-g slice-vals ws a-g)))
-          (via 𝓤 _ (to-last out κs slice-vals 𝓤 H A W ws a) (from-last out-g κs-g slice-vals 𝓤 H A W ws xs fits y)) $
+          (via 𝓤 _ (to-final out κs slice-vals 𝓤 H A W ws a) (from-final out-g κs-g slice-vals 𝓤 H A W ws xs fits y)) $
           move ! (1 ∷ 0 ∷ []) $ fjoin ! $ move ! (1 ∷ 0 ∷ []) $ join ! $ frame ! $ done !
 
       abbrev Says : (R T) .Denot → List ℕ → Item 𝓤
@@ -267,4 +267,4 @@ module _ (T : Types) (ws : List Width) where
         (λ κs. (shr-tells (named 0) (κs .0) (S T), tells out κs slice-vals (mut-slice-tells (named 1) (κs .1 .0) u8) ws))
         (λ κs qs bounds a _ are. via 𝓤 _ (fst∗ 𝓤 _ (emp 𝓤))
         (runs 𝓤 H A W (κs .0) (κs .1 .0) (qs .0) (qs .1 .0) (a .0) (a .1) #g (𝓣 .C) (𝓣 .Λ) (fmOf 𝓤 H (W .laws) 𝓣) known
-        (all-fit out κs slice-vals ws (a .1) (are .1)) (last-is out κs slice-vals ws (a .1) (are .1) .0 .1))))
+        (all-fit out κs slice-vals ws (a .1) (are .1)) (final-is out κs slice-vals ws (a .1) (are .1) .0 .1))))

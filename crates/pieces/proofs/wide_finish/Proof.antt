@@ -10,11 +10,11 @@ use Rattle.pieces.proofs.wide_finish.Tie as tie
 
 returns : tie.Need-returns
 returns c =
-    let f = c .before .before .before in
+    let f = c .before .before in
     let a = f .before .before .before .args in
     let none = no-bits wideKind (hashOf (a .hash)) 0 (now (a .out)) in
-    (c .number .ensures ∙ ap numberOf (f .finish .ensures .0 ∙ none .0), f .finish .ensures .1 ∙ none .1)
+    (f .wide-finish-bits .ensures .0 ∙ ap numberOf (none .0), f .wide-finish-bits .ensures .1 ∙ none .1)
 
 pub wide-finish-spec : {M : Type 1} → statement M
 wide-finish-spec = tie.close (tie.spec
-    (λ c κs. search needs) (λ c κs. search needs) (λ c. search needs) returns)
+    (λ c κs. search needs) (λ c. search needs) returns)
