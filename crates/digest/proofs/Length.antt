@@ -15,7 +15,7 @@ use Rattle.digest.specs.Blocks.{block, iterated, compressed, lastBytes}
 use Rattle.digest.specs.Pipe.{Pipe, written}
 use Rattle.digest.specs.Start.{start224, start256, start384, start512}
 use Rattle.digest.specs.Step.{wordBytes, R, step}
-use Rattle.digest.specs.Kind.{kindOf, knownSize, narrowKind, wideKind}
+use Rattle.digest.specs.Kind.{knownSize, narrowKind, wideKind}
 use Rattle.digest.specs.OneCall.{digestOf, DigestLength}
 use Rattle.digest.specs.Bits.{packed}
 use Rattle.digest.specs.BitPadding.{paddedBits}
@@ -51,10 +51,12 @@ module _ (s : Width) where
         let f = iterated-full B (length l / B) b l (split Full (eqb n small) p q (λ _. fp) (λ _. fq)) in
         last-length (n / 8) (written (wordBytes s) (compressed B (step s) b l)) (omega (arith, h, written-full (compressed B (step s) b l) f))
 
-narrow-length : (n : ℕ) (l : List ℕ) → knownSize narrowKind n ≡ true → length (lastBytes (n / 8) (narrowKind .written (compressed 64 (narrowKind .step) (narrowKind .start n) l))) ≡ n / 8
+narrow-length : (n : ℕ) (l : List ℕ) → knownSize narrowKind n ≡ true
+    → length (lastBytes (n / 8) (narrowKind .written (compressed 64 (narrowKind .step) (narrowKind .start n) l))) ≡ n / 8
 narrow-length n l e = kind-length width32 224 256 start224 start256 refl refl n l (omega (arith, size-bound 224 256 n 256 (lit≤ tt) (lit≤ tt) e))
 
-wide-length : (n : ℕ) (l : List ℕ) → knownSize wideKind n ≡ true → length (lastBytes (n / 8) (wideKind .written (compressed 128 (wideKind .step) (wideKind .start n) l))) ≡ n / 8
+wide-length : (n : ℕ) (l : List ℕ) → knownSize wideKind n ≡ true
+    → length (lastBytes (n / 8) (wideKind .written (compressed 128 (wideKind .step) (wideKind .start n) l))) ≡ n / 8
 wide-length n l e = kind-length width64 384 512 start384 start512 refl refl n l (omega (arith, size-bound 384 512 n 512 (lit≤ tt) (lit≤ tt) e))
 
 pub digest-length : DigestLength
