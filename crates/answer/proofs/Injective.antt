@@ -10,14 +10,14 @@ use Rattle.answer.specs.declared.Answer.TheVariants.{Done, Refused}
 use Rattle.answer.specs.declared.Refusal.{Refusal}
 use Rattle.answer.specs.declared.Refusal.TheVariants.{Size, State, Length, Output, Width, Operand, Sheet, Opcode, Truncated, Place, SamePlace}
 use Rattle.answer.specs.declared.Refusal.TheVariants.{MessageCount, JoinedLength, Start, BitCount, Records, RecordCount, Pairs}
-use Rattle.answer.specs.Number.{refusalNumber, number_of, markedNumber}
-use Rattle.answer.specs.Refuse.{unless, isDone}
-use Rattle.answer.proofs.Refuse.{unless-cases}
+use Rattle.answer.specs.Number.{refusal_number, number_of, marked_number}
+use Rattle.answer.specs.Refuse.{unless, is_done}
+use Rattle.answer.proofs.Refuse.{unless_cases}
 use Rattle.answer.specs.Injective.{Fits, Injective, NumbersInjective}
 
 -- ---- a refusal from its number
-abbrev refusalOf : ℕ → Refusal
-refusalOf n =
+abbrev refusal_of : ℕ → Refusal
+refusal_of n =
     cond (eqb n 1) Size
     (cond (eqb n 2) State
     (cond (eqb n 3) Length
@@ -36,7 +36,7 @@ refusalOf n =
     (cond (eqb n 16) Records
     (cond (eqb n 17) RecordCount Pairs))))))))))))))))
 
-found : (r : Refusal) → refusalOf (refusalNumber r) ≡ r
+found : (r : Refusal) → refusal_of (refusal_number r) ≡ r
 found Size = refl
 found State = refl
 found Length = refl
@@ -56,10 +56,10 @@ found Records = refl
 found RecordCount = refl
 found Pairs = refl
 
-refusal-one : (r s : Refusal) → refusalNumber r ≡ refusalNumber s → r ≡ s
-refusal-one r s e = sym (found r) ∙ ap refusalOf e ∙ found s
+refusal_one : (r s : Refusal) → refusal_number r ≡ refusal_number s → r ≡ s
+refusal_one r s e = sym (found r) ∙ ap refusal_of e ∙ found s
 
-positive : (r : Refusal) → 0 < refusalNumber r
+positive : (r : Refusal) → 0 < refusal_number r
 positive Size = lit≤ tt
 positive State = lit≤ tt
 positive Length = lit≤ tt
@@ -79,12 +79,12 @@ positive Records = lit≤ tt
 positive RecordCount = lit≤ tt
 positive Pairs = lit≤ tt
 
-refused-one : (r s : Refusal) (i j : ℕ) → i < 2 ^ 32 → j < 2 ^ 32 → number_of (Refused r i) ≡ number_of (Refused s j)
+refused_one : (r s : Refusal) (i j : ℕ) → i < 2 ^ 32 → j < 2 ^ 32 → number_of (Refused r i) ≡ number_of (Refused s j)
     → ◌≡◌ {A = Answer} (Refused r i) (Refused s j)
-refused-one r s i j p q e =
-    let f : refusalNumber r ≡ refusalNumber s = omega arith in
+refused_one r s i j p q e =
+    let f : refusal_number r ≡ refusal_number s = omega arith in
     let g : i ≡ j = omega arith in
-    λ t. Refused (refusal-one r s f t) (g t)
+    λ t. Refused (refusal_one r s f t) (g t)
 
 -- a numbering whose successes are their own numbers and whose refusals stand at or above a bound, at a distance from `number_of`
 record Numbering (number : Answer → ℕ) (bound mark : ℕ) : Type 0 where
@@ -97,22 +97,22 @@ module _ (number : Answer → ℕ) (bound mark : ℕ) (h : Numbering number boun
   one (Done m) (Done n) p q e = ap Done (sym (h.own m) ∙ e ∙ h.own n)
   one (Done m) (Refused s j) p q e = absurd (omega (arith, h.own m, h.high s j))
   one (Refused r i) (Done n) p q e = absurd (omega (arith, h.own n, h.high r i))
-  one (Refused r i) (Refused s j) p q e = refused-one r s i j p q (omega (arith, h.apart r i, h.apart s j))
+  one (Refused r i) (Refused s j) p q e = refused_one r s i j p q (omega (arith, h.apart r i, h.apart s j))
 
-  refusal-tested : (a : Answer) → Fits bound a → isDone a ≡ ltb (number a) bound
-  refusal-tested (Done n) p = sym (lt-ltb (number (Done n)) bound (omega (arith, h.own n)))
-  refusal-tested (Refused r at) p = sym (le-ltb (number (Refused r at)) bound (h.high r at))
+  refusal_tested : (a : Answer) → Fits bound a → is_done a ≡ ltb (number a) bound
+  refusal_tested (Done n) p = sym (lt-ltb (number (Done n)) bound (omega (arith, h.own n)))
+  refusal_tested (Refused r at) p = sym (le-ltb (number (Refused r at)) bound (h.high r at))
 
   injective : Injective number bound
-  injective = record { answer = one; refusal = refusal-tested }
+  injective = record { answer = one; refusal = refusal_tested }
 
-pub numbers-injective : NumbersInjective
-numbers-injective =
+pub numbers_injective : NumbersInjective
+numbers_injective =
     record {
       plain = injective number_of (2 ^ 32) 0 (record { own = λ n. refl; apart = λ r at. omega arith; high = λ r at. omega (arith, positive r) });
-      marked = injective markedNumber (2 ^ 63) (2 ^ 63) (record { own = λ n. refl; apart = λ r at. refl; high = λ r at. omega arith });
+      marked = injective marked_number (2 ^ 63) (2 ^ 63) (record { own = λ n. refl; apart = λ r at. refl; high = λ r at. omega arith });
     }
 
 -- what fits behind a refusal that is tested first
-pub fits-unless : (bound : ℕ) (t : Bool) (r : Refusal) (a : Answer) → (t ≡ true → Fits bound a) → Fits bound (unless t r a)
-fits-unless bound t r a f = unless-cases (Fits bound) t r a (λ _. lit≤ tt) f
+pub fits_unless : (bound : ℕ) (t : Bool) (r : Refusal) (a : Answer) → (t ≡ true → Fits bound a) → Fits bound (unless t r a)
+fits_unless bound t r a f = unless_cases (Fits bound) t r a (λ _. lit≤ tt) f

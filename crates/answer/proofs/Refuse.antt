@@ -4,28 +4,28 @@ use mathlib.Core.Bool.{Bool, true, false, true≢false, false≢true}
 use Rattle.answer.specs.declared.Answer.{Answer}
 use Rattle.answer.specs.declared.Answer.TheVariants.{Done, Refused}
 use Rattle.answer.specs.declared.Refusal.{Refusal}
-use Rattle.answer.specs.Refuse.{unless, isDone, outcome}
+use Rattle.answer.specs.Refuse.{unless, is_done, outcome}
 
 -- a refusal leaves the old
-pub refused-outcome : {A : Type 0} (a : Answer) (new old : A) → isDone a ≡ false → old ≡ outcome a new old
-refused-outcome (Done n) new old e = absurd (true≢false e)
-refused-outcome (Refused r at) new old e = refl
+pub refused_outcome : {A : Type 0} (a : Answer) (new old : A) → is_done a ≡ false → old ≡ outcome a new old
+refused_outcome (Done n) new old e = absurd (true≢false e)
+refused_outcome (Refused r at) new old e = refl
 
 -- a success leaves the new
-pub done-outcome : {A : Type 0} (a : Answer) (new old : A) → isDone a ≡ true → new ≡ outcome a new old
-done-outcome (Done n) new old e = refl
-done-outcome (Refused r at) new old e = absurd (false≢true e)
+pub done_outcome : {A : Type 0} (a : Answer) (new old : A) → is_done a ≡ true → new ≡ outcome a new old
+done_outcome (Done n) new old e = refl
+done_outcome (Refused r at) new old e = absurd (false≢true e)
 
 -- what holds of the refusal where a test does not, and of what comes next where it does, holds of the answer
-pub unless-cases : (P : Answer → Type 0) (t : Bool) (r : Refusal) (next : Answer) → (t ≡ false → P (Refused r 0)) → (t ≡ true → P next) → P (unless t r next)
-unless-cases P true r next f g = g refl
-unless-cases P false r next f g = f refl
+pub unless_cases : (P : Answer → Type 0) (t : Bool) (r : Refusal) (next : Answer) → (t ≡ false → P (Refused r 0)) → (t ≡ true → P next) → P (unless t r next)
+unless_cases P true r next f g = g refl
+unless_cases P false r next f g = f refl
 
 -- a success passed the test, and is that of what comes next
-pub unless-done : (t : Bool) (r : Refusal) (next : Answer) → isDone (unless t r next) ≡ true → (t ≡ true) × (isDone next ≡ true)
-unless-done t r next = unless-cases (λ a. isDone a ≡ true → (t ≡ true) × (isDone next ≡ true)) t r next (λ _ e. absurd (false≢true e)) (λ h e. (h, e))
+pub unless_done : (t : Bool) (r : Refusal) (next : Answer) → is_done (unless t r next) ≡ true → (t ≡ true) × (is_done next ≡ true)
+unless_done t r next = unless_cases (λ a. is_done a ≡ true → (t ≡ true) × (is_done next ≡ true)) t r next (λ _ e. absurd (false≢true e)) (λ h e. (h, e))
 
 -- what an answer leaves of what it left already
-pub outcome-again : {A B : Type 0} (a : Answer) (of : A → B) (new none : A) (old : B) → outcome a (of (outcome a new none)) old ≡ outcome a (of new) old
-outcome-again (Done n) of new none old = refl
-outcome-again (Refused r at) of new none old = refl
+pub outcome_again : {A B : Type 0} (a : Answer) (of : A → B) (new none : A) (old : B) → outcome a (of (outcome a new none)) old ≡ outcome a (of new) old
+outcome_again (Done n) of new none old = refl
+outcome_again (Refused r at) of new none old = refl

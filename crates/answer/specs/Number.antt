@@ -7,32 +7,32 @@ use Rattle.answer.specs.declared.Refusal.{Refusal}
 use Rattle.answer.specs.declared.Refusal.TheVariants.{Size, State, Length, Output, Width, Operand, Sheet, Opcode, Truncated, Place, SamePlace}
 use Rattle.answer.specs.declared.Refusal.TheVariants.{MessageCount, JoinedLength, Start, BitCount, Records, RecordCount, Pairs}
 
-abbrev pub refusalNumber : Refusal → ℕ
-refusalNumber Size = 1
-refusalNumber State = 2
-refusalNumber Length = 3
-refusalNumber Output = 4
-refusalNumber Width = 5
-refusalNumber Operand = 6
-refusalNumber Sheet = 7
-refusalNumber Opcode = 8
-refusalNumber Truncated = 9
-refusalNumber Place = 10
-refusalNumber SamePlace = 11
-refusalNumber MessageCount = 12
-refusalNumber JoinedLength = 13
-refusalNumber Start = 14
-refusalNumber BitCount = 15
-refusalNumber Records = 16
-refusalNumber RecordCount = 17
-refusalNumber Pairs = 19
+abbrev pub refusal_number : Refusal → ℕ
+refusal_number Size = 1
+refusal_number State = 2
+refusal_number Length = 3
+refusal_number Output = 4
+refusal_number Width = 5
+refusal_number Operand = 6
+refusal_number Sheet = 7
+refusal_number Opcode = 8
+refusal_number Truncated = 9
+refusal_number Place = 10
+refusal_number SamePlace = 11
+refusal_number MessageCount = 12
+refusal_number JoinedLength = 13
+refusal_number Start = 14
+refusal_number BitCount = 15
+refusal_number Records = 16
+refusal_number RecordCount = 17
+refusal_number Pairs = 19
 
 -- a success's own number, or 2^32 times the refusal number plus the offset
 abbrev pub number_of : Answer → ℕ
 number_of (Done n) = n
-number_of (Refused r at) = refusalNumber r * 2 ^ 32 + at
+number_of (Refused r at) = refusal_number r * 2 ^ 32 + at
 
 -- The same for a call whose success can pass 2^32, as a total of bytes can: a refusal has bit 63 set besides.
-abbrev pub markedNumber : Answer → ℕ
-markedNumber (Done n) = n
-markedNumber (Refused r at) = 2 ^ 63 + number_of (Refused r at)
+abbrev pub marked_number : Answer → ℕ
+marked_number (Done n) = n
+marked_number (Refused r at) = 2 ^ 63 + number_of (Refused r at)

@@ -9,9 +9,9 @@ abbrev pub unless : Bool → Refusal → Answer → Answer
 unless true r next = next
 unless false r next = Refused r 0
 
-abbrev pub isDone : Answer → Bool
-isDone (Done n) = true
-isDone (Refused r at) = false
+abbrev pub is_done : Answer → Bool
+is_done (Done n) = true
+is_done (Refused r at) = false
 
 -- what an answer leaves: a success the new, a refusal the old
 abbrev pub outcome : {A : Type 0} → Answer → A → A → A

@@ -1,7 +1,7 @@
 // What an operation of the kit answers: a success with its number, or a refusal with an offset.
 ghost use Rattle.std.specs.Prelude.{◌≡◌, ◌<◌};
-ghost use Rattle.answer.specs.Number.{refusalNumber, number_of, markedNumber};
-ghost use Rattle.answer.specs.Refuse.{isDone};
+ghost use Rattle.answer.specs.Number.{refusal_number, number_of, marked_number};
+ghost use Rattle.answer.specs.Refuse.{is_done};
 
 // Why a call is refused. `specs/Number.antt` gives the number of document 01 or 02 for each.
 #[derive(Drop)]
@@ -38,7 +38,7 @@ const MARK: u64 = 9223372036854775808;
 
 // The number of a refusal.
 pub fn refusal_number(r: Refusal) -> u64
-    ensures value { result ≡ refusalNumber r }
+    ensures value { result ≡ refusal_number r }
     ensures upper_bound { result < 256 }
 {
     match r {
@@ -75,7 +75,7 @@ pub fn number(a: Answer) -> u64
 
 // The same for a call whose success can pass 2^32: a refusal has bit 63 set besides.
 pub fn marked_number(a: Answer) -> u64
-    ensures { result ≡ markedNumber a }
+    ensures { result ≡ marked_number a }
 {
     match a {
         Answer::Done(n) => n,
@@ -85,7 +85,7 @@ pub fn marked_number(a: Answer) -> u64
 
 // Whether the answer is a success.
 pub fn is_done(a: Answer) -> bool
-    ensures { result ≡ isDone a }
+    ensures { result ≡ is_done a }
 {
     match a {
         Answer::Done(_) => true,

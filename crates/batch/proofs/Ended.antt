@@ -9,65 +9,65 @@ use lib.ListN.{length, drop}
 use Rattle.answer.specs.declared.Answer.{Answer}
 use Rattle.answer.specs.declared.Answer.TheVariants.{Done, Refused}
 use Rattle.answer.specs.declared.Refusal.TheVariants.{Size, MessageCount, JoinedLength, Output}
-use Rattle.answer.specs.Refuse.{isDone}
+use Rattle.answer.specs.Refuse.{is_done}
 use Rattle.answer.proofs.Tests.{goes_on, stops}
-use Rattle.answer.proofs.Outcome.{ends-refused, ends-done}
+use Rattle.answer.proofs.Outcome.{ends_refused, ends_done}
 use Rattle.memory.specs.Lists.{total}
-use Rattle.digest.specs.Kind.{knownSize, kindFor, Known}
-use Rattle.batch.specs.Batch.{messages, digests, digestsLength, batchAnswer, batchOut}
-use Rattle.batch.proofs.Tests.{Accepted, accepted, unknown-size, too_many, other-sum, no_room, done}
-use Rattle.batch.proofs.Fitting.{digests-bound}
-use Rattle.batch.proofs.Sums.{Sum, of-all}
+use Rattle.digest.specs.Kind.{known_size, kind_for, Known}
+use Rattle.batch.specs.Batch.{messages, digests, digests_length, batch_answer, batch_out}
+use Rattle.batch.proofs.Tests.{Accepted, accepted, unknown_size, too_many, other_sum, no_room, done}
+use Rattle.batch.proofs.Fitting.{digests_bound}
+use Rattle.batch.proofs.Sums.{Sum, of_all}
 
 -- ---- the answer, test by test: t and m are what the code found of the size and of the sum
-module _ (n joined : ℕ) (ns : List ℕ) (room : ℕ) {t : Bool} (e : t ≡ knownSize (kindFor n) n) {m : ℕ} (d : Sum ns m) where
+module _ (n joined : ℕ) (ns : List ℕ) (room : ℕ) {t : Bool} (e : t ≡ known_size (kind_for n) n) {m : ℕ} (d : Sum ns m) where
   abbrev l : ℕ
-  l = digestsLength n (length ns)
+  l = digests_length n (length ns)
 
-  pub ends-unknown : not t ≡ true → Refused Size 0 ≡ batchAnswer n joined ns room
-  ends-unknown h = sym (unknown-size n joined ns room (stops e h))
+  pub ends_unknown : not t ≡ true → Refused Size 0 ≡ batch_answer n joined ns room
+  ends_unknown h = sym (unknown_size n joined ns room (stops e h))
 
   module _ (h : not t ≡ false) where
-    pub ends-many : not (leb (length ns) 1024) ≡ true → Refused MessageCount 0 ≡ batchAnswer n joined ns room
-    ends-many g = sym (too_many n joined ns room (goes_on e h) (not-true (leb (length ns) 1024) g))
+    pub ends_many : not (leb (length ns) 1024) ≡ true → Refused MessageCount 0 ≡ batch_answer n joined ns room
+    ends_many g = sym (too_many n joined ns room (goes_on e h) (not-true (leb (length ns) 1024) g))
 
     module _ (g : not (leb (length ns) 1024) ≡ false) where
       few : leb (length ns) 1024 ≡ true
       few = not-false (leb (length ns) 1024) g
 
       sum_is : eqb m joined ≡ eqb (total ns) joined
-      sum_is = ap (λ (x : ℕ). eqb x joined) (of-all ns d few)
+      sum_is = ap (λ (x : ℕ). eqb x joined) (of_all ns d few)
 
       pub few_bytes : l ≤ 65536
-      few_bytes = digests-bound n (length ns) (goes_on e h) (leb-true (length ns) 1024 few)
+      few_bytes = digests_bound n (length ns) (goes_on e h) (leb-true (length ns) 1024 few)
 
-      pub ends-other : not (eqb m joined) ≡ true → Refused JoinedLength 0 ≡ batchAnswer n joined ns room
-      ends-other f = sym (other-sum n joined ns room (goes_on e h) few (stops sum_is f))
+      pub ends_other : not (eqb m joined) ≡ true → Refused JoinedLength 0 ≡ batch_answer n joined ns room
+      ends_other f = sym (other_sum n joined ns room (goes_on e h) few (stops sum_is f))
 
       module _ (f : not (eqb m joined) ≡ false) where
-        pub ends-short : room < l → Refused Output 0 ≡ batchAnswer n joined ns room
-        ends-short r = sym (no_room n joined ns room (goes_on e h) few (goes_on sum_is f) (lt-leb l room r))
+        pub ends_short : room < l → Refused Output 0 ≡ batch_answer n joined ns room
+        ends_short r = sym (no_room n joined ns room (goes_on e h) few (goes_on sum_is f) (lt-leb l room r))
 
-        pub ends-room : l ≤ room → Done l ≡ batchAnswer n joined ns room
-        ends-room r = sym (done n joined ns room (goes_on e h) few (goes_on sum_is f) (le-leb l room r))
+        pub ends_room : l ≤ room → Done l ≡ batch_answer n joined ns room
+        ends_room r = sym (done n joined ns room (goes_on e h) few (goes_on sum_is f) (le-leb l room r))
 
 -- ---- the call, by its answer
-module _ (n : ℕ) (s ns out : List ℕ) {r : Answer} (e : r ≡ batchAnswer n (length s) ns (length out)) {t : Bool} (d : t ≡ isDone r) where
+module _ (n : ℕ) (s ns out : List ℕ) {r : Answer} (e : r ≡ batch_answer n (length s) ns (length out)) {t : Bool} (d : t ≡ is_done r) where
   abbrev new : List ℕ
-  new = digests n (messages s ns) ++ drop (digestsLength n (length ns)) out
+  new = digests n (messages s ns) ++ drop (digests_length n (length ns)) out
 
   -- the call returns r and leaves `last`
   abbrev Ended : List ℕ → Type 0
-  Ended last = (r ≡ batchAnswer n (length s) ns (length out)) × (last ≡ batchOut n s ns out)
+  Ended last = (r ≡ batch_answer n (length s) ns (length out)) × (last ≡ batch_out n s ns out)
 
   pub refused : not t ≡ true → Ended out
-  refused h = ends-refused new out e d h
+  refused h = ends_refused new out e d h
 
   module _ (h : not t ≡ false) where
-    pub asked : Known n × (total ns ≡ length s) × (digestsLength n (length ns) ≤ length out)
+    pub asked : Known n × (total ns ≡ length s) × (digests_length n (length ns) ≤ length out)
     asked =
-        let a : Accepted n (length s) ns (length out) = accepted n (length s) ns (length out) (ap isDone (sym e) ∙ goes_on d h) in
+        let a : Accepted n (length s) ns (length out) = accepted n (length s) ns (length out) (ap is_done (sym e) ∙ goes_on d h) in
         (a.known, a.sums, a.fits)
 
     pub written : {last : List ℕ} → last ≡ new → Ended last
-    written g = ends-done new out e d h g
+    written g = ends_done new out e d h g

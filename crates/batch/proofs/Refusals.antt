@@ -11,20 +11,20 @@ use Rattle.answer.specs.declared.Answer.{Answer}
 use Rattle.answer.specs.declared.Answer.TheVariants.{Done, Refused}
 use Rattle.answer.specs.declared.Refusal.TheVariants.{Size, Length, MessageCount, JoinedLength, Output}
 use Rattle.answer.specs.Refuse.{outcome}
-use Rattle.answer.proofs.Refuse.{refused-outcome, unless-cases}
+use Rattle.answer.proofs.Refuse.{refused_outcome, unless_cases}
 use Rattle.memory.specs.Lists.{total}
-use Rattle.digest.specs.Kind.{knownSize, kindFor, Known}
-use Rattle.batch.specs.Batch.{messages, digests, digestsLength, batchAnswer, batchOut}
+use Rattle.digest.specs.Kind.{known_size, kind_for, Known}
+use Rattle.batch.specs.Batch.{messages, digests, digests_length, batch_answer, batch_out}
 use Rattle.batch.specs.Refusals.{BatchRefuses}
-use Rattle.batch.proofs.Tests.{Accepted, unknown-size, too_many, other-sum, no_room, answered}
+use Rattle.batch.proofs.Tests.{Accepted, unknown_size, too_many, other_sum, no_room, answered}
 
 -- none of its answers is that of a message that is too long
-never : (n joined : ℕ) (ns : List ℕ) (room i : ℕ) → batchAnswer n joined ns room ≡ Refused Length i → ⊥
+never : (n joined : ℕ) (ns : List ℕ) (room i : ℕ) → batch_answer n joined ns room ≡ Refused Length i → ⊥
 never n joined ns room i =
-    unless-cases Other (knownSize (kindFor n) n) Size _ (λ _ e. let z : ◌≡◌ {A = ℕ} 0 1 = cc in omega arith) λ _.
-    unless-cases Other (leb (length ns) 1024) MessageCount _ (λ _ e. let z : ◌≡◌ {A = ℕ} 0 1 = cc in omega arith) λ _.
-    unless-cases Other (eqb (total ns) joined) JoinedLength _ (λ _ e. let z : ◌≡◌ {A = ℕ} 0 1 = cc in omega arith) λ _.
-    unless-cases Other (leb (digestsLength n (length ns)) room) Output _ (λ _ e. let z : ◌≡◌ {A = ℕ} 0 1 = cc in omega arith)
+    unless_cases Other (known_size (kind_for n) n) Size _ (λ _ e. let z : ◌≡◌ {A = ℕ} 0 1 = cc in omega arith) λ _.
+    unless_cases Other (leb (length ns) 1024) MessageCount _ (λ _ e. let z : ◌≡◌ {A = ℕ} 0 1 = cc in omega arith) λ _.
+    unless_cases Other (eqb (total ns) joined) JoinedLength _ (λ _ e. let z : ◌≡◌ {A = ℕ} 0 1 = cc in omega arith) λ _.
+    unless_cases Other (leb (digests_length n (length ns)) room) Output _ (λ _ e. let z : ◌≡◌ {A = ℕ} 0 1 = cc in omega arith)
     (λ _ e. let z : ◌≡◌ {A = ℕ} 0 1 = cc in omega arith)
   where
     Other : Answer → Type 0
@@ -35,23 +35,23 @@ nothing : (n room : ℕ) → Known n → Accepted n 0 [] room
 unfolding sum
 nothing n room k = record { known = k; few = omega arith; sums = refl; fits = omega (arith, zero-mul (n / 8)) }
 
-nothing_written : (n : ℕ) (out : List ℕ) → batchAnswer n 0 [] (length out) ≡ Done (digestsLength n 0) → batchOut n [] [] out ≡ out
+nothing_written : (n : ℕ) (out : List ℕ) → batch_answer n 0 [] (length out) ≡ Done (digests_length n 0) → batch_out n [] [] out ≡ out
 nothing_written n out e = ap (λ (a : Answer). outcome a (drop (0 * (n / 8)) out) out) e ∙ ap (λ (i : ℕ). drop i out) (zero-mul (n / 8))
 
-pub batch-refuses : BatchRefuses
+pub batch_refuses : BatchRefuses
 unfolding sum
-batch-refuses n s ns out =
+batch_refuses n s ns out =
     let j = length s in
     let r = length out in
-    let l = digestsLength n (length ns) in
+    let l = digests_length n (length ns) in
     record {
-      size = unknown-size n j ns r;
+      size = unknown_size n j ns r;
       many = λ k h. too_many n j ns r k (lt-leb (length ns) 1024 h);
-      unequal = λ k f h. other-sum n j ns r k (le-leb (length ns) 1024 f) (ne_eqb (total ns) j h);
+      unequal = λ k f h. other_sum n j ns r k (le-leb (length ns) 1024 f) (ne_eqb (total ns) j h);
       short = λ k f e h. no_room n j ns r k (le-leb (length ns) 1024 f) (eq-eqb (total ns) j e) (lt-leb l r h);
       others = λ k f e h. answered n j ns r (record { known = k; few = f; sums = e; fits = h });
       none = λ k. let a = answered n 0 [] r (nothing n r k) in (a ∙ ap Done (zero-mul (n / 8)), nothing_written n out a);
-      bytes-without-lengths = λ k h. other-sum n j [] r k refl (ne_eqb 0 j (λ e. omega arith));
-      never-long = never n j ns r;
-      unchanged = λ d. sym (refused-outcome (batchAnswer n j ns r) (digests n (messages s ns) ++ drop l out) out d);
+      bytes_without_lengths = λ k h. other_sum n j [] r k refl (ne_eqb 0 j (λ e. omega arith));
+      never_long = never n j ns r;
+      unchanged = λ d. sym (refused_outcome (batch_answer n j ns r) (digests n (messages s ns) ++ drop l out) out d);
     }

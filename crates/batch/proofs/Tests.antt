@@ -8,11 +8,11 @@ use lib.Dec.{eqb, leb}
 use lib.ListN.{length}
 use Rattle.answer.specs.declared.Answer.TheVariants.{Done, Refused}
 use Rattle.answer.specs.declared.Refusal.TheVariants.{Size, MessageCount, JoinedLength, Output}
-use Rattle.answer.specs.Refuse.{isDone}
-use Rattle.answer.proofs.Refuse.{unless-done}
+use Rattle.answer.specs.Refuse.{is_done}
+use Rattle.answer.proofs.Refuse.{unless_done}
 use Rattle.memory.specs.Lists.{total}
-use Rattle.digest.specs.Kind.{knownSize, kindFor, Known}
-use Rattle.batch.specs.Batch.{digestsLength, batchAnswer}
+use Rattle.digest.specs.Kind.{known_size, kind_for, Known}
+use Rattle.batch.specs.Batch.{digests_length, batch_answer}
 
 module _ (n joined : ℕ) (ns : List ℕ) (room : ℕ) where
   -- no refusal's condition holds
@@ -20,34 +20,34 @@ module _ (n joined : ℕ) (ns : List ℕ) (room : ℕ) where
     pub known : Known n
     pub few : length ns ≤ 1024
     pub sums : total ns ≡ joined
-    pub fits : digestsLength n (length ns) ≤ room
+    pub fits : digests_length n (length ns) ≤ room
 
-  pub accepted : isDone (batchAnswer n joined ns room) ≡ true → Accepted
+  pub accepted : is_done (batch_answer n joined ns room) ≡ true → Accepted
   accepted d =
-      let a = unless-done (knownSize (kindFor n) n) Size _ d in
-      let b = unless-done (leb (length ns) 1024) MessageCount _ a.1 in
-      let c = unless-done (eqb (total ns) joined) JoinedLength _ b.1 in
-      let e = unless-done (leb (digestsLength n (length ns)) room) Output _ c.1 in
+      let a = unless_done (known_size (kind_for n) n) Size _ d in
+      let b = unless_done (leb (length ns) 1024) MessageCount _ a.1 in
+      let c = unless_done (eqb (total ns) joined) JoinedLength _ b.1 in
+      let e = unless_done (leb (digests_length n (length ns)) room) Output _ c.1 in
       record { known = a.0; few = leb-true _ _ b.0; sums = eqb-true _ _ c.0; fits = leb-true _ _ e.0 }
 
-  pub unknown-size : knownSize (kindFor n) n ≡ false → batchAnswer n joined ns room ≡ Refused Size 0
-  unknown-size e = rw e refl
+  pub unknown_size : known_size (kind_for n) n ≡ false → batch_answer n joined ns room ≡ Refused Size 0
+  unknown_size e = rw e refl
 
   module _ (k : Known n) where
-    pub too_many : leb (length ns) 1024 ≡ false → batchAnswer n joined ns room ≡ Refused MessageCount 0
+    pub too_many : leb (length ns) 1024 ≡ false → batch_answer n joined ns room ≡ Refused MessageCount 0
     too_many e = rw (k, e) refl
 
     module _ (f : leb (length ns) 1024 ≡ true) where
-      pub other-sum : eqb (total ns) joined ≡ false → batchAnswer n joined ns room ≡ Refused JoinedLength 0
-      other-sum e = rw (k, f, e) refl
+      pub other_sum : eqb (total ns) joined ≡ false → batch_answer n joined ns room ≡ Refused JoinedLength 0
+      other_sum e = rw (k, f, e) refl
 
       module _ (j : eqb (total ns) joined ≡ true) where
-        pub no_room : leb (digestsLength n (length ns)) room ≡ false → batchAnswer n joined ns room ≡ Refused Output 0
+        pub no_room : leb (digests_length n (length ns)) room ≡ false → batch_answer n joined ns room ≡ Refused Output 0
         no_room e = rw (k, f, j, e) refl
 
-        pub done : leb (digestsLength n (length ns)) room ≡ true → batchAnswer n joined ns room ≡ Done (digestsLength n (length ns))
+        pub done : leb (digests_length n (length ns)) room ≡ true → batch_answer n joined ns room ≡ Done (digests_length n (length ns))
         done e = rw (k, f, j, e) refl
 
-  pub answered : Accepted → batchAnswer n joined ns room ≡ Done (digestsLength n (length ns))
+  pub answered : Accepted → batch_answer n joined ns room ≡ Done (digests_length n (length ns))
   answered a =
-      done a.known (le-leb (length ns) 1024 a.few) (eq-eqb (total ns) joined a.sums) (le-leb (digestsLength n (length ns)) room a.fits)
+      done a.known (le-leb (length ns) 1024 a.few) (eq-eqb (total ns) joined a.sums) (le-leb (digests_length n (length ns)) room a.fits)

@@ -2,7 +2,7 @@
 -- proofs/Fitting.antt shows it.
 use Rattle.std.specs.Prelude.{List, ℕ, ◌^◌}
 use Rattle.answer.specs.Injective.{Fits}
-use Rattle.batch.specs.Batch.{batchAnswer}
+use Rattle.batch.specs.Batch.{batch_answer}
 
 abbrev pub BatchFits : Type 0
-BatchFits = (n joined : ℕ) (ns : List ℕ) (room : ℕ) → Fits (2 ^ 32) (batchAnswer n joined ns room)
+BatchFits = (n joined : ℕ) (ns : List ℕ) (room : ℕ) → Fits (2 ^ 32) (batch_answer n joined ns room)

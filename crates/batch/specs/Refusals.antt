@@ -2,26 +2,26 @@
 use Rattle.std.specs.Prelude.{◌≡◌, true, false, List, [], ℕ, ◌≤◌, ◌<◌, length}
 use Rattle.answer.specs.declared.Answer.TheVariants.{Done, Refused}
 use Rattle.answer.specs.declared.Refusal.TheVariants.{Size, Length, MessageCount, JoinedLength, Output}
-use Rattle.answer.specs.Refuse.{isDone}
+use Rattle.answer.specs.Refuse.{is_done}
 use Rattle.memory.specs.Lists.{total}
-use Rattle.digest.specs.Kind.{knownSize, kindFor, Known}
-use Rattle.batch.specs.Batch.{digestsLength, batchAnswer, batchOut}
+use Rattle.digest.specs.Kind.{known_size, kind_for, Known}
+use Rattle.batch.specs.Batch.{digests_length, batch_answer, batch_out}
 
 -- It refuses with 1 if the size is none of the four, else with 12 if there are more than 1,024 lengths, else with 13 if they do not sum to the joined length,
 -- else with 4 if the output is too short for all digests, and else not. So, at the four sizes, an empty list with no bytes is answered with 0, whatever the
 -- output, and changes nothing, and an empty list with bytes is refused with 13; 3 cannot occur; and a refusal leaves the output as it was
 pub record Refuses (n : ℕ) (s ns out : List ℕ) : Type 0 where
-  pub size : knownSize (kindFor n) n ≡ false → batchAnswer n (length s) ns (length out) ≡ Refused Size 0
-  pub many : Known n → 1024 < length ns → batchAnswer n (length s) ns (length out) ≡ Refused MessageCount 0
-  pub unequal : Known n → length ns ≤ 1024 → (total ns ≡ length s → ⊥) → batchAnswer n (length s) ns (length out) ≡ Refused JoinedLength 0
-  pub short : Known n → length ns ≤ 1024 → total ns ≡ length s → length out < digestsLength n (length ns)
-      → batchAnswer n (length s) ns (length out) ≡ Refused Output 0
-  pub others : Known n → length ns ≤ 1024 → total ns ≡ length s → digestsLength n (length ns) ≤ length out
-      → batchAnswer n (length s) ns (length out) ≡ Done (digestsLength n (length ns))
-  pub none : Known n → (batchAnswer n 0 [] (length out) ≡ Done 0) × (batchOut n [] [] out ≡ out)
-  pub bytes-without-lengths : Known n → 0 < length s → batchAnswer n (length s) [] (length out) ≡ Refused JoinedLength 0
-  pub never-long : (i : ℕ) → batchAnswer n (length s) ns (length out) ≡ Refused Length i → ⊥
-  pub unchanged : isDone (batchAnswer n (length s) ns (length out)) ≡ false → batchOut n s ns out ≡ out
+  pub size : known_size (kind_for n) n ≡ false → batch_answer n (length s) ns (length out) ≡ Refused Size 0
+  pub many : Known n → 1024 < length ns → batch_answer n (length s) ns (length out) ≡ Refused MessageCount 0
+  pub unequal : Known n → length ns ≤ 1024 → (total ns ≡ length s → ⊥) → batch_answer n (length s) ns (length out) ≡ Refused JoinedLength 0
+  pub short : Known n → length ns ≤ 1024 → total ns ≡ length s → length out < digests_length n (length ns)
+      → batch_answer n (length s) ns (length out) ≡ Refused Output 0
+  pub others : Known n → length ns ≤ 1024 → total ns ≡ length s → digests_length n (length ns) ≤ length out
+      → batch_answer n (length s) ns (length out) ≡ Done (digests_length n (length ns))
+  pub none : Known n → (batch_answer n 0 [] (length out) ≡ Done 0) × (batch_out n [] [] out ≡ out)
+  pub bytes_without_lengths : Known n → 0 < length s → batch_answer n (length s) [] (length out) ≡ Refused JoinedLength 0
+  pub never_long : (i : ℕ) → batch_answer n (length s) ns (length out) ≡ Refused Length i → ⊥
+  pub unchanged : is_done (batch_answer n (length s) ns (length out)) ≡ false → batch_out n s ns out ≡ out
 
 abbrev pub BatchRefuses : Type 0
 BatchRefuses = (n : ℕ) (s ns out : List ℕ) → Refuses n s ns out

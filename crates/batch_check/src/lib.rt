@@ -1,8 +1,8 @@
 // The tests of a call that digests many messages: it is refused by number, or answers how many bytes it writes.
 ghost use Rattle.std.specs.Prelude.{◌≡◌, cond, leb, length};
 ghost use Rattle.memory.specs.Lists.{total};
-ghost use Rattle.digest.specs.Kind.{knownSize, kindFor};
-ghost use Rattle.batch.specs.Batch.{batchAnswer};
+ghost use Rattle.digest.specs.Kind.{known_size, kind_for};
+ghost use Rattle.batch.specs.Batch.{batch_answer};
 
 use answer::{Answer, Refusal};
 
@@ -11,7 +11,7 @@ const MOST: usize = 1024;
 
 // Whether `size` is one of the four.
 fn is_known(size: u32) -> bool
-    ensures { result ≡ knownSize (kindFor size) size }
+    ensures { result ≡ known_size (kind_for size) size }
 {
     if refusal::is_size(384, 512, size as u64) {
         return true;
@@ -37,7 +37,7 @@ fn total_length(lengths: &[u32]) -> u64
 
 // What the call answers for messages of `joined` bytes together and an output of `room` bytes.
 pub fn answer_for(size: u32, joined: usize, lengths: &[u32], room: usize) -> Answer
-    ensures { result ≡ batchAnswer size joined lengths.now room }
+    ensures { result ≡ batch_answer size joined lengths.now room }
 {
     let known = is_known(size);
     let sum = total_length(lengths);

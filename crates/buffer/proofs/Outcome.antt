@@ -6,27 +6,27 @@ use Prim.Native.Nat.{ℕ, ◌≤◌}
 use native.Mathlib.Omega.{arith}
 use lib.ListN.{length, drop}
 use Rattle.answer.specs.declared.Answer.{Answer}
-use Rattle.answer.specs.Refuse.{isDone}
+use Rattle.answer.specs.Refuse.{is_done}
 use Rattle.answer.proofs.Tests.{goes_on}
-use Rattle.answer.proofs.Outcome.{ends-refused, ends-done}
+use Rattle.answer.proofs.Outcome.{ends_refused, ends_done}
 use Rattle.quasigroup.specs.Tables.{Width}
-use Rattle.operands.specs.Operation.{answerFor, onBytes, outputAfter}
+use Rattle.operands.specs.Operation.{answer_for, on_bytes, output_after}
 use Rattle.operands.proofs.Tests.{success}
 
 module _ (op : Width → List ℕ → List ℕ → List ℕ) (w : ℕ) (x y out : List ℕ) (r : Answer) where
   -- the call returns r and leaves `last`
   abbrev Ended : List ℕ → Type 0
-  Ended last = (r ≡ answerFor w x y out) × (last ≡ outputAfter op w x y out)
+  Ended last = (r ≡ answer_for w x y out) × (last ≡ output_after op w x y out)
 
   -- the tests are passed: what the function of width k asks for, and what is left when it is done
   pub record Passed : Type 0 where
     pub other : (w ≡ 32 → ⊥) → w ≡ 64
     pub fits : (k : ℕ) → w ≡ k → (k ≤ length x) × (k ≤ length y) × (k ≤ length out)
-    pub written : (k : ℕ) → w ≡ k → (last : List ℕ) → last ≡ onBytes op k x y ++ drop k out → Ended last
+    pub written : (k : ℕ) → w ≡ k → (last : List ℕ) → last ≡ on_bytes op k x y ++ drop k out → Ended last
 
-  module _ (e : r ≡ answerFor w x y out) {done : Bool} (d : done ≡ isDone r) where
+  module _ (e : r ≡ answer_for w x y out) {done : Bool} (d : done ≡ is_done r) where
     pub refused : not done ≡ true → Ended out
-    refused = ends-refused (onBytes op w x y ++ drop w out) out e d
+    refused = ends_refused (on_bytes op w x y ++ drop w out) out e d
 
     pub passed : not done ≡ false → Passed
     passed n =
@@ -34,5 +34,5 @@ module _ (op : Width → List ℕ → List ℕ → List ℕ) (w : ℕ) (x y out 
         record {
           other = s.other;
           fits = λ k h. (omega arith, omega arith, omega arith);
-          written = λ k h last g. ends-done (onBytes op w x y ++ drop w out) out e d n (rw (sym h) at g);
+          written = λ k h last g. ends_done (on_bytes op w x y ++ drop w out) out e d n (rw (sym h) at g);
         }

@@ -10,56 +10,56 @@ use borrow.Author.Tests.{eq-eqb}
 use Rattle.answer.specs.declared.Answer.{Answer}
 use Rattle.answer.specs.declared.Answer.TheVariants.{Done, Refused}
 use Rattle.answer.specs.Refuse.{outcome}
-use Rattle.answer.proofs.Refuse.{refused-outcome}
-use Rattle.memory.specs.Bytes.{wordsAt, bytes_of}
-use Rattle.memory.proofs.Bytes.{bytesOf-are}
+use Rattle.answer.proofs.Refuse.{refused_outcome}
+use Rattle.memory.specs.Bytes.{words_at, bytes_of}
+use Rattle.memory.proofs.Bytes.{bytes_of-are}
 use Rattle.quasigroup.specs.Tables.{Width, width_of}
 use Rattle.quasigroup.specs.Product.{product}
-use Rattle.quasigroup.specs.Division.{leftDivision, rightDivision, unleft, unright}
+use Rattle.quasigroup.specs.Division.{left_division, right_division, unleft, unright}
 use Rattle.quasigroup.specs.Vector.{Vector}
 use Rattle.quasigroup.specs.Theorem.{OnlySolution}
 use Rattle.quasigroup.proofs.Vectors.{Undo}
-use Rattle.quasigroup.proofs.Widths.{Bytewise, bytewise-32, bytewise-64, left-division-undoes, right-division-undoes}
-use Rattle.quasigroup.proofs.InBytes.{vector-at, vector-length, words-alone, bytes-alone}
-use Rattle.operands.specs.Operation.{answerFor, onBytes}
+use Rattle.quasigroup.proofs.Widths.{Bytewise, bytewise_32, bytewise_64, left_division_undoes, right_division_undoes}
+use Rattle.quasigroup.proofs.InBytes.{vector_at_lem, vector_length, words_alone, bytes_alone}
+use Rattle.operands.specs.Operation.{answer_for, on_bytes}
 use Rattle.operands.proofs.Tests.{accepted}
-use Rattle.buffer.specs.Theorem.{InBytes, QuasigroupOnBytes, firstBytes, BehindStays, CallsSolve, RefusalWritesNothing}
+use Rattle.buffer.specs.Theorem.{InBytes, QuasigroupOnBytes, first_bytes, BehindStays, CallsSolve, RefusalWritesNothing}
 
 module _ (w : ℕ) (h : Bytewise w) where
   abbrev words : List ℕ → List ℕ
-  words s = wordsAt (w / 8) 8 s 0
+  words s = words_at (w / 8) 8 s 0
 
-  words-vector : (s : List ℕ) → InBytes w s → Vector w (words s)
-  words-vector s b = vector-at w h s b.small 0
+  words_vector : (s : List ℕ) → InBytes w s → Vector w (words s)
+  words_vector s b = vector_at_lem w h s b.small 0
 
-  bytes-vector : (v : List ℕ) → Vector w v → InBytes w (bytes_of (w / 8) v)
-  bytes-vector v b = record { size = vector-length w h v b.size; small = bytesOf-are (w / 8) v }
+  bytes_vector : (v : List ℕ) → Vector w v → InBytes w (bytes_of (w / 8) v)
+  bytes_vector v b = record { size = vector_length w h v b.size; small = bytes_of-are (w / 8) v }
 
   -- two steps on words that undo each other do so on bytes
   only : (f g : List ℕ → List ℕ) → Undo w f g → (b : List ℕ) → InBytes w b
       → OnlySolution (InBytes w) (λ x. bytes_of (w / 8) (f (words x))) b (bytes_of (w / 8) (g (words b)))
   only f g u b hb =
-      let vb = words-vector b hb in
+      let vb = words_vector b hb in
       record {
-        holds = bytes-vector (g (words b)) (u.back (words b) vb);
+        holds = bytes_vector (g (words b)) (u.back (words b) vb);
         solves =
-            ap (λ (v : List ℕ). bytes_of (w / 8) (f v)) (words-alone w h (g (words b)) (u.back (words b) vb))
-            ∙ ap (bytes_of (w / 8)) (u.right (words b) vb) ∙ bytes-alone w h b hb.small hb.size;
+            ap (λ (v : List ℕ). bytes_of (w / 8) (f v)) (words_alone w h (g (words b)) (u.back (words b) vb))
+            ∙ ap (bytes_of (w / 8)) (u.right (words b) vb) ∙ bytes_alone w h b hb.small hb.size;
         unique = λ z hz e.
-            let vz = words-vector z hz in
-            sym (bytes-alone w h z hz.small hz.size)
-            ∙ ap (bytes_of (w / 8)) (sym (u.left (words z) vz) ∙ ap g (sym (words-alone w h (f (words z)) (u.there (words z) vz))))
+            let vz = words_vector z hz in
+            sym (bytes_alone w h z hz.small hz.size)
+            ∙ ap (bytes_of (w / 8)) (sym (u.left (words z) vz) ∙ ap g (sym (words_alone w h (f (words z)) (u.there (words z) vz))))
             ∙ ap (λ (s : List ℕ). bytes_of (w / 8) (g (words s))) e;
       }
 
   pub quasigroup : QuasigroupOnBytes w
-  unfolding onBytes
+  unfolding on_bytes
   quasigroup =
       record {
-        closed = λ x y hx hy. bytes-vector _ ((left-division-undoes w h (words x) (words-vector x hx)).there (words y) (words-vector y hy));
-        left = λ a b ha hb. only (product (width_of w) (words a)) (leftDivision (width_of w) (words a)) (left-division-undoes w h (words a) (words-vector a ha)) b hb;
+        closed = λ x y hx hy. bytes_vector _ ((left_division_undoes w h (words x) (words_vector x hx)).there (words y) (words_vector y hy));
+        left = λ a b ha hb. only (product (width_of w) (words a)) (left_division (width_of w) (words a)) (left_division_undoes w h (words a) (words_vector a ha)) b hb;
         right = λ a b ha hb.
-            only (λ y. product (width_of w) y (words a)) (λ z. rightDivision (width_of w) z (words a)) (right-division-undoes w h (words a) (words-vector a ha)) b hb;
+            only (λ y. product (width_of w) y (words a)) (λ z. right_division (width_of w) z (words a)) (right_division_undoes w h (words a) (words_vector a ha)) b hb;
       }
 
 -- ---- what the calls write
@@ -74,72 +74,72 @@ like w f g b {x} {y} k e h =
       unique = λ z hz d. h.unique z hz (sym (k z hz) ∙ d) ∙ sym e;
     }
 
-behind-stays : (w : ℕ) (a : Answer) (x out : List ℕ) → length x ≡ w → drop w (outcome a (x ++ drop w out) out) ≡ drop w out
-behind-stays w (Done n) x out e = drop_at x (drop w out) w e
-behind-stays w (Refused r i) x out e = refl
+behind_stays : (w : ℕ) (a : Answer) (x out : List ℕ) → length x ≡ w → drop w (outcome a (x ++ drop w out) out) ≡ drop w out
+behind_stays w (Done n) x out e = drop_at x (drop w out) w e
+behind_stays w (Refused r i) x out e = refl
 
-product-eight : (s : Width) (x y : List ℕ) → length (product s x y) ≡ 8
+product_eight : (s : Width) (x y : List ℕ) → length (product s x y) ≡ 8
 unfolding product
-product-eight s x y = refl
+product_eight s x y = refl
 
-left-eight : (s : Width) (x y : List ℕ) → length (leftDivision s x y) ≡ 8
-unfolding leftDivision unright
-left-eight s x y = refl
+left_eight : (s : Width) (x y : List ℕ) → length (left_division s x y) ≡ 8
+unfolding left_division unright
+left_eight s x y = refl
 
-right-eight : (s : Width) (x y : List ℕ) → length (rightDivision s x y) ≡ 8
-unfolding rightDivision unleft
-right-eight s x y = refl
+right_eight : (s : Width) (x y : List ℕ) → length (right_division s x y) ≡ 8
+unfolding right_division unleft
+right_eight s x y = refl
 
 module _ (w : ℕ) (h : Bytewise w) where
-  done : (x y out : List ℕ) → InBytes w x → InBytes w y → w ≤ length out → answerFor w x y out ≡ Done w
+  done : (x y out : List ℕ) → InBytes w x → InBytes w y → w ≤ length out → answer_for w x y out ≡ Done w
   done x y out hx hy room =
       let fit : (eqb (length x) w && eqb (length y) w) ≡ true = rw (eq-eqb (length x) w hx.size, eq-eqb (length y) w hy.size) in
       sym (accepted w x y out h.known fit room)
 
   -- an operation whose result has eight words
   module _ (op : Width → List ℕ → List ℕ → List ℕ) (eight : (s : Width) (x y : List ℕ) → length (op s x y) ≡ 8) where
-    all-bytes : (x y : List ℕ) → length (onBytes op w x y) ≡ w
-    unfolding onBytes
-    all-bytes x y =
+    all_bytes : (x y : List ℕ) → length (on_bytes op w x y) ≡ w
+    unfolding on_bytes
+    all_bytes x y =
         let v = op (width_of w) (words w h x) (words w h y) in
-        vector-length w h v (eight (width_of w) (words w h x) (words w h y))
+        vector_length w h v (eight (width_of w) (words w h x) (words w h y))
 
-    first-bytes : (x y out : List ℕ) → InBytes w x → InBytes w y → w ≤ length out → firstBytes op w x y out ≡ onBytes op w x y
-    first-bytes x y out hx hy room =
-        ap (λ (a : Answer). take w (outcome a (onBytes op w x y ++ drop w out) out)) (done x y out hx hy room)
-        ∙ take_at (onBytes op w x y) (drop w out) w (all-bytes x y)
+    first_bytes_lem : (x y out : List ℕ) → InBytes w x → InBytes w y → w ≤ length out → first_bytes op w x y out ≡ on_bytes op w x y
+    first_bytes_lem x y out hx hy room =
+        ap (λ (a : Answer). take w (outcome a (on_bytes op w x y ++ drop w out) out)) (done x y out hx hy room)
+        ∙ take_at (on_bytes op w x y) (drop w out) w (all_bytes x y)
 
     behind : BehindStays op w
-    behind x y out = behind-stays w (answerFor w x y out) (onBytes op w x y) out (all-bytes x y)
+    behind x y out = behind_stays w (answer_for w x y out) (on_bytes op w x y) out (all_bytes x y)
 
-  pub by-calls : CallsSolve w
-  by-calls =
+  pub by_calls : CallsSolve w
+  by_calls =
       let q = quasigroup w h in
       record {
         done = done;
-        closed = λ x y out hx hy room. subst (InBytes w) (sym (first-bytes product product-eight x y out hx hy room)) (q.closed x y hx hy);
+        closed = λ x y out hx hy room. subst (InBytes w) (sym (first_bytes_lem product product_eight x y out hx hy room)) (q.closed x y hx hy);
         left = λ a b out out' ha hb room room'.
-            like w _ _ b (λ x hx. first-bytes product product-eight a x out' ha hx room')
-            (first-bytes leftDivision left-eight a b out ha hb room) (q.left a b ha hb);
+            like w _ _ b (λ x hx. first_bytes_lem product product_eight a x out' ha hx room')
+            (first_bytes_lem left_division left_eight a b out ha hb room) (q.left a b ha hb);
         right = λ a b out out' ha hb room room'.
-            like w _ _ b (λ y hy. first-bytes product product-eight y a out' hy ha room')
-            (first-bytes rightDivision right-eight b a out hb ha room) (q.right a b ha hb);
-        behind = (behind product product-eight, behind leftDivision left-eight, behind rightDivision right-eight);
+            like w _ _ b (λ y hy. first_bytes_lem product product_eight y a out' hy ha room')
+            (first_bytes_lem right_division right_eight b a out hb ha room) (q.right a b ha hb);
+        behind = (behind product product_eight, behind left_division left_eight, behind right_division right_eight);
       }
 
-pub refusal-writes-nothing : RefusalWritesNothing
-refusal-writes-nothing op w x y out e = sym (refused-outcome (answerFor w x y out) (onBytes op w x y ++ drop w out) out e)
+pub refusal_writes_nothing : RefusalWritesNothing
+refusal_writes_nothing op w x y out e = sym (refused_outcome (answer_for w x y out) (on_bytes op w x y ++ drop w out) out e)
 
 -- ---- the two widths
 
-pub bytes-quasigroup-32 : QuasigroupOnBytes 32
-bytes-quasigroup-32 = quasigroup 32 bytewise-32
+pub bytes_quasigroup_32 : QuasigroupOnBytes 32
+bytes_quasigroup_32 = quasigroup 32 bytewise_32
 
-pub bytes-quasigroup-64 : QuasigroupOnBytes 64
-bytes-quasigroup-64 = quasigroup 64 bytewise-64
+pub bytes_quasigroup_64 : QuasigroupOnBytes 64
+bytes_quasigroup_64 = quasigroup 64 bytewise_64
 
-pub calls-solve-32 : CallsSolve 32
-calls-solve-32 = by-calls 32 bytewise-32
+pub calls_solve_32 : CallsSolve 32
+calls_solve_32 = by_calls 32 bytewise_32
 
-pub calls-solve-64 : CallsSolve 64
-calls-solve-64 = by-calls 64 bytewise-64
+pub calls_solve_64 : CallsSolve 64
+calls_solve_64 = by_calls 64 bytewise_64

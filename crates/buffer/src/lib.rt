@@ -1,15 +1,15 @@
 // The product and both divisions on lent bytes, for a width given as a number: each call tests its arguments and refuses by number.
 ghost use Rattle.std.specs.Prelude.{◌≡◌};
 ghost use Rattle.quasigroup.specs.Product.{product};
-ghost use Rattle.quasigroup.specs.Division.{leftDivision, rightDivision};
-ghost use Rattle.operands.specs.Operation.{answerFor, outputAfter};
+ghost use Rattle.quasigroup.specs.Division.{left_division, right_division};
+ghost use Rattle.operands.specs.Operation.{answer_for, output_after};
 
 use answer::Answer;
 
 // X*Y, into the first `width` bytes of `out`.
 pub fn product(width: u32, x: &[u8], y: &[u8], out: &mut [u8]) -> Answer
-    ensures value { result ≡ answerFor width x.now y.now out.old }
-    ensures out_after { out.new ≡ outputAfter product width x.now y.now out.old }
+    ensures value { result ≡ answer_for width x.now y.now out.old }
+    ensures out_after { out.new ≡ output_after product width x.now y.now out.old }
 {
     let r = operands::answer_for(width, x, y, out);
     if !answer::is_done(r) {
@@ -25,8 +25,8 @@ pub fn product(width: u32, x: &[u8], y: &[u8], out: &mut [u8]) -> Answer
 
 // a\b, into the first `width` bytes of `out`.
 pub fn left_division(width: u32, a: &[u8], b: &[u8], out: &mut [u8]) -> Answer
-    ensures value { result ≡ answerFor width a.now b.now out.old }
-    ensures out_after { out.new ≡ outputAfter leftDivision width a.now b.now out.old }
+    ensures value { result ≡ answer_for width a.now b.now out.old }
+    ensures out_after { out.new ≡ output_after left_division width a.now b.now out.old }
 {
     let r = operands::answer_for(width, a, b, out);
     if !answer::is_done(r) {
@@ -42,8 +42,8 @@ pub fn left_division(width: u32, a: &[u8], b: &[u8], out: &mut [u8]) -> Answer
 
 // b/a, into the first `width` bytes of `out`.
 pub fn right_division(width: u32, b: &[u8], a: &[u8], out: &mut [u8]) -> Answer
-    ensures value { result ≡ answerFor width b.now a.now out.old }
-    ensures out_after { out.new ≡ outputAfter rightDivision width b.now a.now out.old }
+    ensures value { result ≡ answer_for width b.now a.now out.old }
+    ensures out_after { out.new ≡ output_after right_division width b.now a.now out.old }
 {
     let r = operands::answer_for(width, b, a, out);
     if !answer::is_done(r) {

@@ -7,60 +7,60 @@ use borrow.Author.Tests.{eq-eqb, eqb-true, eqb-false}
 use lib.Bits.{bit_or}
 use lib.Dec.{eqb}
 use lib.ListN.{length, take, drop}
-use Rattle.memory.specs.Bytes.{wordsAt, Bytes}
-use Rattle.memory.proofs.Bytes.{words-length}
-use Rattle.memory.proofs.Parts.{words-part}
+use Rattle.memory.specs.Bytes.{words_at, Bytes}
+use Rattle.memory.proofs.Bytes.{words_length}
+use Rattle.memory.proofs.Parts.{words_part}
 use Rattle.memory.proofs.Same.{SameBytes, same_more, same_first, words_same, bytes_same}
 use Rattle.quasigroup.proofs.Widths.{Bytewise}
-use Rattle.shuffle.specs.Shuffle.{recordLength, recordWords}
-use Rattle.replay.specs.Difference.{recordAt, agreeing, same_words}
-use Rattle.replay.proofs.Agreeing.{agree-all, agree-self, tells}
+use Rattle.shuffle.specs.Shuffle.{record_length, record_words}
+use Rattle.replay.specs.Difference.{record_at, agreeing, same_words}
+use Rattle.replay.proofs.Agreeing.{agree_all, agree_self, tells}
 use Rattle.comparison.proofs.Bits.{none_left, none_right, none_both}
-use Rattle.replay.proofs.Words.{record-length, same-records, same_bytes}
+use Rattle.replay.proofs.Words.{record_length_lem, same_records, same_bytes}
 
 -- `bits` has none set exactly if the first bytes of the record at `from` are those of the state v, as far as `at`
 pub record Compared (w : ℕ) (r : List ℕ) (from : ℕ) (v : List ℕ) (bits at : ℕ) : Type 0 where
   pub count : ℕ
   pub chunks : at ≡ 64 * count
-  pub within : at ≤ recordLength w
+  pub within : at ≤ record_length w
   pub same : bits ≡ 0 → SameBytes at r from v 0
   pub none : SameBytes at r from v 0 → bits ≡ 0
 
 -- there are 64 bytes more
-pub room : (w : ℕ) → Bytewise w → {r : List ℕ} {from : ℕ} {v : List ℕ} {bits at : ℕ} → Compared w r from v bits at → at < recordLength w
-    → at + 64 ≤ recordLength w
+pub room : (w : ℕ) → Bytewise w → {r : List ℕ} {from : ℕ} {v : List ℕ} {bits at : ℕ} → Compared w r from v bits at → at < record_length w
+    → at + 64 ≤ record_length w
 room w hw c h = omega (arith, c.chunks, hw.eight)
 
-module _ (w : ℕ) (hw : Bytewise w) (r : List ℕ) (hr : Bytes r) (from : ℕ) (v : List ℕ) (hv : Bytes v) (lr : from + recordLength w ≤ length r)
-    (lv : length v ≡ recordLength w) where
+module _ (w : ℕ) (hw : Bytewise w) (r : List ℕ) (hr : Bytes r) (from : ℕ) (v : List ℕ) (hv : Bytes v) (lr : from + record_length w ≤ length r)
+    (lv : length v ≡ record_length w) where
   pub begin : Compared w r from v 0 0
   begin = record { count = 0; chunks = refl; within = omega arith; same = λ _. refl; none = λ _. refl }
 
   -- code loaded the words x of the record and y of the state at `at`, and found d of their differing bits
-  module _ (bits at : ℕ) (c : Compared w r from v bits at) (h : at < recordLength w) {x y : List ℕ}
-      (ex : x ≡ wordsAt 8 8 (take (length r - (from + at)) (drop (from + at) r)) 0) (ey : y ≡ wordsAt 8 8 (take (length v - at) (drop at v)) 0)
+  module _ (bits at : ℕ) (c : Compared w r from v bits at) (h : at < record_length w) {x y : List ℕ}
+      (ex : x ≡ words_at 8 8 (take (length r - (from + at)) (drop (from + at) r)) 0) (ey : y ≡ words_at 8 8 (take (length v - at) (drop at v)) 0)
       (d : ℕ) (ed : eqb d 0 ≡ eqb (agreeing x y) 8) where
-    found : x ≡ wordsAt 8 8 r (from + at)
-    found = ex ∙ words-part 8 8 r (from + at)
+    found : x ≡ words_at 8 8 r (from + at)
+    found = ex ∙ words_part 8 8 r (from + at)
 
-    expected : y ≡ wordsAt 8 8 v (0 + at)
-    expected = let z : at ≡ 0 + at = omega arith in ey ∙ words-part 8 8 v at ∙ ap (wordsAt 8 8 v) z
+    expected : y ≡ words_at 8 8 v (0 + at)
+    expected = let z : at ≡ 0 + at = omega arith in ey ∙ words_part 8 8 v at ∙ ap (words_at 8 8 v) z
 
-    x-length : length x ≡ 8
-    x-length = ap length found ∙ words-length 8 8 r (from + at)
+    x_length : length x ≡ 8
+    x_length = ap length found ∙ words_length 8 8 r (from + at)
 
-    y-length : length y ≡ 8
-    y-length = ap length expected ∙ words-length 8 8 v (0 + at)
+    y_length : length y ≡ 8
+    y_length = ap length expected ∙ words_length 8 8 v (0 + at)
 
-    same-words : d ≡ 0 → x ≡ y
-    same-words e = agree-all x y (x-length ∙ sym y-length) (eqb-true (agreeing x y) 8 (sym ed ∙ eq-eqb d 0 e) ∙ sym x-length)
+    same_words_lem : d ≡ 0 → x ≡ y
+    same_words_lem e = agree_all x y (x_length ∙ sym y_length) (eqb-true (agreeing x y) 8 (sym ed ∙ eq-eqb d 0 e) ∙ sym x_length)
 
     no_bits : x ≡ y → d ≡ 0
-    no_bits e = eqb-true d 0 (ed ∙ eq-eqb (agreeing x y) 8 (ap (agreeing x) (sym e) ∙ agree-self x ∙ x-length))
+    no_bits e = eqb-true d 0 (ed ∙ eq-eqb (agreeing x y) 8 (ap (agreeing x) (sym e) ∙ agree_self x ∙ x_length))
 
-    same-more-bytes : d ≡ 0 → SameBytes (8 * 8) r (from + at) v (0 + at)
-    same-more-bytes e =
-        bytes_same r (from + at) v (0 + at) hr hv 8 8 (omega (arith, room w hw c h)) (omega (arith, room w hw c h)) (sym found ∙ same-words e ∙ expected)
+    same_more_bytes : d ≡ 0 → SameBytes (8 * 8) r (from + at) v (0 + at)
+    same_more_bytes e =
+        bytes_same r (from + at) v (0 + at) hr hv 8 8 (omega (arith, room w hw c h)) (omega (arith, room w hw c h)) (sym found ∙ same_words_lem e ∙ expected)
 
     pub next : Compared w r from v (bit_or bits d) (at + 64)
     next =
@@ -68,17 +68,17 @@ module _ (w : ℕ) (hw : Bytewise w) (r : List ℕ) (hr : Bytes r) (from : ℕ) 
           count = c.count + 1;
           chunks = omega (arith, c.chunks);
           within = room w hw c h;
-          same = λ e. same_more r from v 0 at 64 (c.same (none_left bits d e)) (same-more-bytes (none_right bits d e));
+          same = λ e. same_more r from v 0 at 64 (c.same (none_left bits d e)) (same_more_bytes (none_right bits d e));
           none = λ e.
               none_both bits d (c.none (same_first r from v 0 at (at + 64) (omega arith) e))
               (no_bits (found ∙ words_same r from v 0 (at + 64) at 8 8 (omega arith) e ∙ sym expected));
         }
 
-  pub holds-all : (bits at : ℕ) → Compared w r from v bits at → recordLength w ≤ at → eqb bits 0 ≡ same_words (recordAt w r from) (recordAt w v 0)
-  holds-all bits at c h =
-      let e : at ≡ recordLength w = omega (arith, c.within) in
-      tells (eqb bits 0) (recordAt w r from) (recordAt w v 0) recordWords (record-length w r from) (record-length w v 0)
-      (λ t. same-records w hw r from v 0 (rw e at (c.same (eqb-true bits 0 t))))
+  pub holds_all : (bits at : ℕ) → Compared w r from v bits at → record_length w ≤ at → eqb bits 0 ≡ same_words (record_at w r from) (record_at w v 0)
+  holds_all bits at c h =
+      let e : at ≡ record_length w = omega (arith, c.within) in
+      tells (eqb bits 0) (record_at w r from) (record_at w v 0) record_words (record_length_lem w r from) (record_length_lem w v 0)
+      (λ t. same_records w hw r from v 0 (rw e at (c.same (eqb-true bits 0 t))))
       λ t x.
       eqb-false bits 0 t
       (c.none (subst (λ (n : ℕ). SameBytes n r from v 0) (sym e) (same_bytes w hw r from v 0 hr hv lr (omega (arith, lv)) x)))

@@ -1,9 +1,9 @@
 // A record held against the state that it should be, both as lent bytes.
 ghost use Rattle.std.specs.Prelude.{◌≡◌, true, false, ◌+◌, ◌/◌, ◌≤◌, eqb, length};
 ghost use Rattle.memory.specs.Bytes.{word_at};
-ghost use Rattle.quasigroup.specs.Tables.{knownWidth};
-ghost use Rattle.shuffle.specs.Shuffle.{recordLength};
-ghost use Rattle.replay.specs.Difference.{recordAt, agreeing, same_words, difference};
+ghost use Rattle.quasigroup.specs.Tables.{known_width};
+ghost use Rattle.shuffle.specs.Shuffle.{record_length};
+ghost use Rattle.replay.specs.Difference.{record_at, agreeing, same_words, difference};
 
 use replay::Finding;
 
@@ -21,8 +21,8 @@ fn differing_bits(x: [u64; 8], y: [u64; 8]) -> u64
 // Whether the record at `from` holds: its bytes are those of the state. They are compared 64 at a time, at either width, and tested once, so that the
 // compiler takes several words together.
 pub fn record_holds(width: u32, state: &[u8], records: &[u8], from: usize) -> bool
-    requires { (knownWidth width ≡ true) × (length state.now ≡ recordLength width) × (from + recordLength width ≤ length records.now) }
-    ensures { result ≡ same_words (recordAt width records.now from) (recordAt width state.now 0) }
+    requires { (known_width width ≡ true) × (length state.now ≡ record_length width) × (from + record_length width ≤ length records.now) }
+    ensures { result ≡ same_words (record_at width records.now from) (record_at width state.now 0) }
 {
     let size = 8 * (width as usize);
     let mut bits: u64 = 0;
@@ -39,7 +39,7 @@ pub fn record_holds(width: u32, state: &[u8], records: &[u8], from: usize) -> bo
 
 // The word whose bytes stand at `at`.
 fn word_at(width: u32, s: &[u8], at: usize) -> u64
-    requires { (knownWidth width ≡ true) × (at + width / 8 ≤ length s.now) }
+    requires { (known_width width ≡ true) × (at + width / 8 ≤ length s.now) }
     ensures { result ≡ word_at (width / 8) s.now at }
 {
     if width == 32 {
@@ -51,8 +51,8 @@ fn word_at(width: u32, s: &[u8], at: usize) -> u64
 
 // The number of the first word that differs, of all 64; or 64.
 fn first_difference(width: u32, state: &[u8], records: &[u8], from: usize) -> usize
-    requires { (knownWidth width ≡ true) × (length state.now ≡ recordLength width) × (from + recordLength width ≤ length records.now) }
-    ensures { result ≡ agreeing (recordAt width records.now from) (recordAt width state.now 0) }
+    requires { (known_width width ≡ true) × (length state.now ≡ record_length width) × (from + record_length width ≤ length records.now) }
+    ensures { result ≡ agreeing (record_at width records.now from) (record_at width state.now 0) }
 {
     let bytes = width as usize / 8;
     let mut first: usize = 64;
@@ -71,9 +71,9 @@ fn first_difference(width: u32, state: &[u8], records: &[u8], from: usize) -> us
 
 // What is told of a record that does not hold, whose command stands at `offset` of its sheet.
 pub fn finding(width: u32, offset: usize, state: &[u8], records: &[u8], from: usize) -> Finding
-    requires width_value { (knownWidth width ≡ true) × (length state.now ≡ recordLength width) × (from + recordLength width ≤ length records.now) }
-    requires state_value { same_words (recordAt width records.now from) (recordAt width state.now 0) ≡ false }
-    ensures { result ≡ difference offset (recordAt width records.now from) (recordAt width state.now 0) }
+    requires width_value { (known_width width ≡ true) × (length state.now ≡ record_length width) × (from + record_length width ≤ length records.now) }
+    requires state_value { same_words (record_at width records.now from) (record_at width state.now 0) ≡ false }
+    ensures { result ≡ difference offset (record_at width records.now from) (record_at width state.now 0) }
 {
     let i = first_difference(width, state, records, from);
     let at = i * (width as usize / 8);

@@ -11,31 +11,31 @@ use Rattle.digest.specs.Blocks.{iterated, compressed, rest}
 
 module _ {P : Type 0} (B : ℕ) (f : P → List ℕ → P) where
   -- n blocks and then m more
-  iterated-more : (n m : ℕ) (p : P) (s : List ℕ) → iterated B f (n + m) p s ≡ iterated B f m (iterated B f n p s) (drop (n * B) s)
-  iterated-more n zero p s = rw add-zero
-  iterated-more n (suc m) p s =
+  iterated_more : (n m : ℕ) (p : P) (s : List ℕ) → iterated B f (n + m) p s ≡ iterated B f m (iterated B f n p s) (drop (n * B) s)
+  iterated_more n zero p s = rw add-zero
+  iterated_more n (suc m) p s =
       let e : (n + m) * B ≡ n * B + m * B = add-mul n m B in
-      rw (add-suc, iterated-more n m p s, drop-drop (m * B) (n * B) s, e)
+      rw (add-suc, iterated_more n m p s, drop-drop (m * B) (n * B) s, e)
 
   -- n blocks see no further than n * B bytes
-  iterated-front : (n : ℕ) (p : P) (s t : List ℕ) → n * B ≤ length s → iterated B f n p (s ++ t) ≡ iterated B f n p s
-  iterated-front zero p s t h = refl
-  iterated-front (suc n) p s t h =
+  iterated_front : (n : ℕ) (p : P) (s t : List ℕ) → n * B ≤ length s → iterated B f n p (s ++ t) ≡ iterated B f n p s
+  iterated_front zero p s t h = refl
+  iterated_front (suc n) p s t h =
       let e : suc n * B ≡ n * B + B = suc-mul n B in
       let h₁ : n * B ≤ length s = omega arith in
       let h₂ : B ≤ length (drop (n * B) s) = simp length-drop (omega arith) in
-      rw (iterated-front n p s t h₁, drop-append-le (n * B) s t h₁, take-append-le B (drop (n * B) s) t h₂)
+      rw (iterated_front n p s t h₁, drop-append-le (n * B) s t h₁, take-append-le B (drop (n * B) s) t h₂)
 
   -- a turn of the loop over blocks, which takes block i as a part of s
-  pub iterated-turn : (p : P) (s : List ℕ) (i : ℕ) {q r : P} → q ≡ iterated B f i p s
+  pub iterated_turn : (p : P) (s : List ℕ) (i : ℕ) {q r : P} → q ≡ iterated B f i p s
       → r ≡ f q (take (i * B + B - i * B) (drop (i * B) s)) → r ≡ iterated B f (i + 1) p s
-  iterated-turn p s i {q} {r} e g =
+  iterated_turn p s i {q} {r} e g =
       let d : i * B + B - i * B ≡ B = omega arith in
       rw (add-one) (g ∙ rw (d, e))
 
   -- and its end
-  pub iterated-all : (p : P) (s : List ℕ) (i : ℕ) {q : P} → i ≡ length s / B → q ≡ iterated B f i p s → q ≡ compressed B f p s
-  iterated-all p s i n e = e ∙ ap (λ (j : ℕ). iterated B f j p s) n
+  pub iterated_all : (p : P) (s : List ℕ) (i : ℕ) {q : P} → i ≡ length s / B → q ≡ iterated B f i p s → q ≡ compressed B f p s
+  iterated_all p s i n e = e ∙ ap (λ (j : ℕ). iterated B f j p s) n
 
 module _ (B : ℕ) (pos : 0 < B) where
   pub length_rest : (s : List ℕ) → length (rest B s) ≡ length s % B
@@ -48,38 +48,38 @@ module _ (B : ℕ) (pos : 0 < B) where
       rw e (mul-add-div_right pos _ _)
 
   -- the rest of s and then t leave what s and t leave
-  pub rest-rest : (s t : List ℕ) → rest B (rest B s ++ t) ≡ rest B (s ++ t)
-  rest-rest s t =
+  pub rest_rest : (s t : List ℕ) → rest B (rest B s ++ t) ≡ rest B (s ++ t)
+  rest_rest s t =
       let n = length s / B in
       let m = length (rest B s ++ t) / B in
       let e : (n + m) * B ≡ n * B + m * B = add-mul n m B in
       sym (ap (λ (j : ℕ). drop (j * B) (s ++ t)) (count s t) ∙ ap (λ (j : ℕ). drop j (s ++ t)) e
       ∙ sym (drop-drop (m * B) (n * B) (s ++ t)) ∙ ap (drop (m * B)) (drop-append-le (n * B) s t (div-mul-le_self (length s) B)))
 
-  pub rest-short : (s : List ℕ) → length s < B → rest B s ≡ s
-  rest-short s h = rw (div-eq_of_lt h, zero-mul)
+  pub rest_short : (s : List ℕ) → length s < B → rest B s ≡ s
+  rest_short s h = rw (div-eq_of_lt h, zero-mul)
 
-  pub rest-one : (s : List ℕ) → length s ≡ B → rest B s ≡ []
-  rest-one s e =
+  pub rest_one : (s : List ℕ) → length s ≡ B → rest B s ≡ []
+  rest_one s e =
       let n : length s / B ≡ 1 = ap (λ (x : ℕ). x / B) e ∙ div_self pos in
       let l : length s ≤ B = omega arith in
       rw (n, one-mul B) (drop_of_length-le s l)
 
   module _ {P : Type 0} (f : P → List ℕ → P) (p : P) where
     -- the blocks of s, and then those of its rest and t, are those of s and t
-    pub compressed-twice : (s t : List ℕ) → compressed B f (compressed B f p s) (rest B s ++ t) ≡ compressed B f p (s ++ t)
-    compressed-twice s t =
+    pub compressed_twice : (s t : List ℕ) → compressed B f (compressed B f p s) (rest B s ++ t) ≡ compressed B f p (s ++ t)
+    compressed_twice s t =
         let n = length s / B in
         let m = length (rest B s ++ t) / B in
         let h = div-mul-le_self (length s) B in
-        sym (ap (λ (j : ℕ). iterated B f j p (s ++ t)) (count s t) ∙ iterated-more B f n m p (s ++ t)
-        ∙ rw (iterated-front B f n p s t h, drop-append-le (n * B) s t h))
+        sym (ap (λ (j : ℕ). iterated B f j p (s ++ t)) (count s t) ∙ iterated_more B f n m p (s ++ t)
+        ∙ rw (iterated_front B f n p s t h, drop-append-le (n * B) s t h))
 
-    pub compressed-short : (s : List ℕ) → length s < B → compressed B f p s ≡ p
-    compressed-short s h = rw (div-eq_of_lt h)
+    pub compressed_short : (s : List ℕ) → length s < B → compressed B f p s ≡ p
+    compressed_short s h = rw (div-eq_of_lt h)
 
-    pub compressed-one : (s : List ℕ) → length s ≡ B → compressed B f p s ≡ f p s
-    compressed-one s e =
+    pub compressed_one : (s : List ℕ) → length s ≡ B → compressed B f p s ≡ f p s
+    compressed_one s e =
         let n : length s / B ≡ 1 = ap (λ (x : ℕ). x / B) e ∙ div_self pos in
         let l : length s ≤ B = omega arith in
         rw n (rw (zero-mul B, take_all B s l))

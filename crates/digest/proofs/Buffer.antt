@@ -9,11 +9,11 @@ use lib.Seq.{take_at, drop_at, drop-append-add, length-take-le}
 use Rattle.digest.specs.Blocks.{filled}
 
 -- as many bytes of a block wait as the total leaves
-pub length-pending : (B : ℕ) → 0 < B → (w : List ℕ) → length w ≡ B → (t : ℕ) → length (take (t % B) w) ≡ t % B
-length-pending B pos w e t = length-take-le (t % B) w (rw e (le_of_lt (mod-lt t pos)))
+pub length_pending : (B : ℕ) → 0 < B → (w : List ℕ) → length w ≡ B → (t : ℕ) → length (take (t % B) w) ≡ t % B
+length_pending B pos w e t = length-take-le (t % B) w (rw e (le_of_lt (mod-lt t pos)))
 
-zeros-drop : (n m : ℕ) → m ≤ n → drop m (replicate {A = ℕ} n 0) ≡ replicate (n - m) 0
-zeros-drop n m h =
+zeros_drop : (n m : ℕ) → m ≤ n → drop m (replicate {A = ℕ} n 0) ≡ replicate (n - m) 0
+zeros_drop n m h =
     let e : m + (n - m) ≡ n = omega arith in
     ap (λ (j : ℕ). drop m (replicate {A = ℕ} j 0)) (sym e) ∙ ap (drop m) (sym (replicate-append-replicate m (n - m) 0))
     ∙ drop_at (replicate m 0) (replicate (n - m) 0) m (length-replicate m 0)
@@ -24,15 +24,15 @@ pub held_two : (n : ℕ) (a b : List ℕ) {w v : List ℕ} → length a + length
     → v ≡ take (length a) w ++ b ++ drop (length a + length b) w
     → v ≡ filled n (a ++ b)
 held_two n a b {w} {v} h e g =
-    let e' : w ≡ a ++ replicate (n - length a) 0 = e ∙ rw (zero-add (length a), zeros-drop n (length a) (omega arith)) in
+    let e' : w ≡ a ++ replicate (n - length a) 0 = e ∙ rw (zero-add (length a), zeros_drop n (length a) (omega arith)) in
     let t : take (length a) w ≡ a = ap (take (length a)) e' ∙ take_at a _ _ refl in
     let z : n - length a - length b ≡ n - length (a ++ b) = omega (arith, length-append a b) in
     let d : drop (length a + length b) w ≡ replicate (n - length (a ++ b)) 0 =
-    ap (drop (length a + length b)) e' ∙ drop-append-add a (replicate (n - length a) 0) (length b) ∙ zeros-drop (n - length a) (length b) (omega arith)
+    ap (drop (length a + length b)) e' ∙ drop-append-add a (replicate (n - length a) 0) (length b) ∙ zeros_drop (n - length a) (length b) (omega arith)
     ∙ ap (λ (j : ℕ). replicate j 0) z in
     g ∙ rw (t, d)
 
 -- the same onto a list that is zeros
-pub on-zeros : (z w y : List ℕ) {b d : List ℕ} → z ≡ replicate (length z) 0 → length w + length y ≤ length z
+pub on_zeros : (z w y : List ℕ) {b d : List ℕ} → z ≡ replicate (length z) 0 → length w + length y ≤ length z
     → b ≡ take 0 z ++ w ++ drop (0 + length w) z → d ≡ take (length w) b ++ y ++ drop (length w + length y) b → d ≡ filled (length z) (w ++ y)
-on-zeros z w y e h f g = held_two (length z) w y h (f ∙ ap (λ (l : List ℕ). take 0 l ++ w ++ drop (0 + length w) l) e) g
+on_zeros z w y e h f g = held_two (length z) w y h (f ∙ ap (λ (l : List ℕ). take 0 l ++ w ++ drop (0 + length w) l) e) g

@@ -2,5 +2,5 @@
 use mathlib.Core.Path.{refl}
 use Rattle.digest.specs.Form.{ZerosNotInForm}
 
-pub zeros-not-in-form : ZerosNotInForm
-zeros-not-in-form = record { narrowZeros = refl; wideZeros = refl }
+pub zeros_not_in_form : ZerosNotInForm
+zeros_not_in_form = record { narrow_zeros = refl; wide_zeros = refl }

@@ -10,18 +10,18 @@ use Rattle.answer.specs.declared.Refusal.TheVariants.{Size}
 use Rattle.answer.specs.Refuse.{unless, outcome}
 use Rattle.digest.specs.Padding.{ending}
 use Rattle.digest.specs.Blocks.{compressed, rest}
-use Rattle.digest.specs.Kind.{Kind, knownSize}
-use Rattle.digest.specs.State.{formed, pending, opened, zeros, openState, advanced, closed, cut, finished}
-use Rattle.digest.specs.OneCall.{digestOf}
-use Rattle.digest.proofs.Blocks.{compressed-twice}
-use Rattle.digest.proofs.Feeding.{held-opened, pending-advanced}
+use Rattle.digest.specs.Kind.{Kind, known_size}
+use Rattle.digest.specs.State.{formed, pending, opened, zeros, open_state, advanced, closed, cut, finished}
+use Rattle.digest.specs.OneCall.{digest_of}
+use Rattle.digest.proofs.Blocks.{compressed_twice}
+use Rattle.digest.proofs.Feeding.{held_opened, pending_advanced}
 
 module _ (k : Kind) (pos : 0 < k.block) (n : ℕ) where
-  pub open_done : knownSize k n ≡ true → openState k n ≡ opened k n
+  pub open_done : known_size k n ≡ true → open_state k n ≡ opened k n
   open_done kn = ap (λ (b : Bool). outcome (unless b Size (Done 0)) (opened k n) (zeros k)) kn
 
-  pub formed-opened : knownSize k n ≡ true → formed k (opened k n) ≡ true
-  formed-opened kn = rw kn
+  pub formed_opened : known_size k n ≡ true → formed k (opened k n) ≡ true
+  formed_opened kn = rw kn
 
   -- closed, it is all blocks of m and its ending, from the starting pipe
   pub closed_is : (m : List ℕ) (mark bits : ℕ) → let h = advanced k (opened k n) m in
@@ -30,12 +30,12 @@ module _ (k : Kind) (pos : 0 < k.block) (n : ℕ) where
   closed_is m mark bits =
       let z : pending k (opened k n) ++ m ≡ m = rw zero-mod in
       let w : pending k (advanced k (opened k n) m) ≡ rest k.block m =
-      pending-advanced k pos (opened k n) m (held-opened k pos n) ∙ ap (rest k.block) z in
-      rw (w, zero-add (length m), z) (compressed-twice k.block pos k.step (k.start n) m (ending k.block (length m) mark bits))
+      pending_advanced k pos (opened k n) m (held_opened k pos n) ∙ ap (rest k.block) z in
+      rw (w, zero-add (length m), z) (compressed_twice k.block pos k.step (k.start n) m (ending k.block (length m) mark bits))
 
-  pub finished-is : (m : List ℕ) → finished k (advanced k (opened k n) m) ≡ digestOf k n m
-  unfolding advanced digestOf
-  finished-is m =
+  pub finished_is : (m : List ℕ) → finished k (advanced k (opened k n) m) ≡ digest_of k n m
+  unfolding advanced digest_of
+  finished_is m =
       ap (cut k n)
       (closed_is m 0x80 (8 * (0 + length m))
       ∙ ap (λ (t : ℕ). compressed k.block k.step (k.start n) (m ++ ending k.block (length m) 0x80 (8 * t))) (zero-add (length m)))

@@ -9,7 +9,7 @@ use lib.Seq.{take_at, sets, sets-eq}
 use Rattle.memory.specs.Bytes.{bytes}
 use Rattle.digest.specs.Padding.{gap, ending}
 use Rattle.digest.specs.Blocks.{filled}
-use Rattle.digest.proofs.Padding.{gap-near, gap-far}
+use Rattle.digest.proofs.Padding.{gap_near, gap_far}
 
 -- q stored at the end of the first n bytes of a buffer of N that holds w, the byte m and zeros
 module _ (N : ℕ) (w : List ℕ) (m : ℕ) (q : List ℕ) (eight : length q ≡ 8) where
@@ -36,14 +36,14 @@ module _ (B N : ℕ) (w : List ℕ) (m bits : ℕ) (big : 9 ≤ B) (short : leng
   small = mod-eq_of_lt short
 
   -- in one block
-  pub tail-one : {b c : List ℕ} → b ≡ filled N (w ++ m ∷ []) → length w + 9 ≤ B → c ≡ sets b (B - 8) (bytes 8 bits) → take B c ≡ w ++ ending B (length w) m bits
-  tail-one is h e =
-      let g = gap-near B 8 big (length w) (omega (arith, small)) in
+  pub tail_one : {b c : List ℕ} → b ≡ filled N (w ++ m ∷ []) → length w + 9 ≤ B → c ≡ sets b (B - 8) (bytes 8 bits) → take B c ≡ w ++ ending B (length w) m bits
+  tail_one is h e =
+      let g = gap_near B 8 big (length w) (omega (arith, small)) in
       placed N w m (bytes 8 bits) refl B (gap B 8 (length w)) (omega (arith, small)) (omega arith) is e
 
   -- in two
-  pub tail-two : {b c : List ℕ} → b ≡ filled N (w ++ m ∷ []) → B < length w + 9 → c ≡ sets b (B + B - 8) (bytes 8 bits)
+  pub tail_two : {b c : List ℕ} → b ≡ filled N (w ++ m ∷ []) → B < length w + 9 → c ≡ sets b (B + B - 8) (bytes 8 bits)
       → take (B + B) c ≡ w ++ ending B (length w) m bits
-  tail-two is h e =
-      let g = gap-far B 8 big (length w) (omega (arith, small)) in
+  tail_two is h e =
+      let g = gap_far B 8 big (length w) (omega (arith, small)) in
       placed N w m (bytes 8 bits) refl (B + B) (gap B 8 (length w)) (omega (arith, small)) room is e

@@ -7,16 +7,16 @@ use lib.ListN.{length, drop}
 use Rattle.digest.specs.Padding.{marked}
 use Rattle.digest.specs.Blocks.{compressed, rest, filled}
 use Rattle.answer.specs.Refuse.{outcome}
-use Rattle.digest.specs.Refusals.{feeding, finishing, finishingBits}
-use Rattle.digest.specs.Kind.{Kind, narrowKind, wideKind}
-use Rattle.digest.specs.State.{Hash, pending, advanced, feedAnswer, closed, cut, finishAnswer, finishOut, finishBitsAnswer, finishBitsOut}
+use Rattle.digest.specs.Refusals.{feeding, finishing, finishing_bits}
+use Rattle.digest.specs.Kind.{Kind, narrow_kind, wide_kind}
+use Rattle.digest.specs.State.{Hash, pending, advanced, feed_answer, closed, cut, finish_answer, finish_out, finish_bits_answer, finish_bits_out}
 use Rattle.digest.specs.Waiting.{Alike, Waiting}
-use Rattle.digest.proofs.Feeding.{held, clean, held-opened, clean-opened}
+use Rattle.digest.proofs.Feeding.{held, clean, held_opened, clean_opened}
 
 module _ (k : Kind) (g h : Hash) (e : Alike k g h) where
-  fed-alike : (s : List ℕ) → (feedAnswer k g s ≡ feedAnswer k h s) × (advanced k g s ≡ advanced k h s)
+  fed_alike_lem : (s : List ℕ) → (feed_answer k g s ≡ feed_answer k h s) × (advanced k g s ≡ advanced k h s)
   unfolding advanced
-  fed-alike s = (
+  fed_alike_lem s = (
     λ i. feeding k.small k.large (e.size i) (e.total i) (length s),
     λ i. record {
       size = e.size i;
@@ -26,19 +26,19 @@ module _ (k : Kind) (g h : Hash) (e : Alike k g h) where
     },
   )
 
-  finished-alike : (out : List ℕ) → (finishAnswer k g out ≡ finishAnswer k h out) × (finishOut k g out ≡ finishOut k h out)
-  finished-alike out = (
+  finished_alike_lem : (out : List ℕ) → (finish_answer k g out ≡ finish_answer k h out) × (finish_out k g out ≡ finish_out k h out)
+  finished_alike_lem out = (
     λ i. finishing k.small k.large (e.size i) (e.total i) (length out),
     λ i. outcome (finishing k.small k.large (e.size i) (e.total i) (length out))
         (cut k (e.size i) (closed k (e.pipe i) (e.pending i) (e.total i) 0x80 (8 * e.total i)) ++ drop (e.size i / 8) out)
         out,
   )
 
-  bits-alike : (last count : ℕ) (out : List ℕ)
-      → (finishBitsAnswer k g count out ≡ finishBitsAnswer k h count out) × (finishBitsOut k g last count out ≡ finishBitsOut k h last count out)
-  bits-alike last count out = (
-    λ i. finishingBits k.small k.large (e.size i) (e.total i) count (length out),
-    λ i. outcome (finishingBits k.small k.large (e.size i) (e.total i) count (length out))
+  bits_alike_lem : (last count : ℕ) (out : List ℕ)
+      → (finish_bits_answer k g count out ≡ finish_bits_answer k h count out) × (finish_bits_out k g last count out ≡ finish_bits_out k h last count out)
+  bits_alike_lem last count out = (
+    λ i. finishing_bits k.small k.large (e.size i) (e.total i) count (length out),
+    λ i. outcome (finishing_bits k.small k.large (e.size i) (e.total i) count (length out))
         (cut k (e.size i) (closed k (e.pipe i) (e.pending i) (e.total i) (marked last count) (8 * e.total i + count)) ++ drop (e.size i / 8) out)
         out,
   )
@@ -46,15 +46,15 @@ module _ (k : Kind) (g h : Hash) (e : Alike k g h) where
 pub waiting : (k : Kind) → 0 < k.block → Waiting k
 waiting k pos =
     record {
-      openedClean = λ n. (held-opened k pos n, clean-opened k pos n);
-      fedClean = λ h s e. (held k pos h s e, clean k pos h s e);
-      fedAlike = fed-alike k;
-      finishedAlike = finished-alike k;
-      bitsAlike = bits-alike k;
+      opened_clean = λ n. (held_opened k pos n, clean_opened k pos n);
+      fed_clean = λ h s e. (held k pos h s e, clean k pos h s e);
+      fed_alike = fed_alike_lem k;
+      finished_alike = finished_alike_lem k;
+      bits_alike = bits_alike_lem k;
     }
 
-pub narrow-waiting : Waiting narrowKind
-narrow-waiting = waiting narrowKind (omega arith)
+pub narrow_waiting : Waiting narrow_kind
+narrow_waiting = waiting narrow_kind (omega arith)
 
-pub wide-waiting : Waiting wideKind
-wide-waiting = waiting wideKind (omega arith)
+pub wide_waiting : Waiting wide_kind
+wide_waiting = waiting wide_kind (omega arith)

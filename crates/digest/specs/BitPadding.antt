@@ -3,16 +3,16 @@
 -- is 8 bytes, lowest byte first; it is l itself for at most 2^64 - 1 bits (`LengthFits`).
 use Rattle.std.specs.Prelude.{◌≡◌, Bool, true, false, List, ◌∷◌, ◌++◌, ℕ, ◌+◌, ◌-◌, ◌*◌, ◌%◌, ◌^◌, ◌≤◌, length, replicate}
 use Rattle.memory.specs.Bytes.{bytes, word_at}
-use Rattle.digest.specs.Bits.{bitString}
+use Rattle.digest.specs.Bits.{bit_string}
 use Rattle.digest.specs.Padding.{gap, Fewest}
 
-unfoldable pub paddedBits : ℕ → List Bool → List Bool
-paddedBits B s = s ++ true ∷ (replicate (gap B 64 (length s)) false ++ bitString (bytes 8 (length s)))
+unfoldable pub padded_bits : ℕ → List Bool → List Bool
+padded_bits B s = s ++ true ∷ (replicate (gap B 64 (length s)) false ++ bit_string (bytes 8 (length s)))
 
 -- for blocks of B bytes, which are 8 * B bits
 pub record BitPadding (B : ℕ) : Type 0 where
   -- the padded string is whole blocks
-  pub blocks : (s : List Bool) → length (paddedBits (8 * B) s) % (8 * B) ≡ 0
+  pub blocks : (s : List Bool) → length (padded_bits (8 * B) s) % (8 * B) ≡ 0
   -- with the fewest zeros
   pub fewest : (l : ℕ) → Fewest (8 * B) 64 l
   -- in 001's words: l + 1 + k is 448 modulo 512, or 960 modulo 1024, and the number of zeros is the smallest such k

@@ -12,18 +12,18 @@ bits_of zero x = []
 bits_of (suc w) x = eqb (x / 2 ^ w % 2) 1 ∷ bits_of w x
 
 -- the bits of bytes
-abbrev pub bitString : List ℕ → List Bool
-bitString [] = []
-bitString (x ∷ m) = bits_of 8 x ++ bitString m
+abbrev pub bit_string : List ℕ → List Bool
+bit_string [] = []
+bit_string (x ∷ m) = bits_of 8 x ++ bit_string m
 
 -- the first n bytes of a bit string
-abbrev pub firstBytes : ℕ → List Bool → List ℕ
-firstBytes zero s = []
-firstBytes (suc n) s = value_of (take 8 s) ∷ firstBytes n (drop 8 s)
+abbrev pub first_bytes : ℕ → List Bool → List ℕ
+first_bytes zero s = []
+first_bytes (suc n) s = value_of (take 8 s) ∷ first_bytes n (drop 8 s)
 
 -- its whole bytes
 abbrev pub packed : List Bool → List ℕ
-packed s = firstBytes (length s / 8) s
+packed s = first_bytes (length s / 8) s
 
 -- the bits behind them, fewer than eight
 abbrev pub remainder : List Bool → List Bool

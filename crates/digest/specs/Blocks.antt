@@ -23,5 +23,5 @@ abbrev pub filled : ℕ → List ℕ → List ℕ
 filled n s = s ++ replicate (n - length s) 0
 
 -- the last n bytes of s
-abbrev pub lastBytes : ℕ → List ℕ → List ℕ
-lastBytes n s = drop (length s - n) s
+abbrev pub last_bytes : ℕ → List ℕ → List ℕ
+last_bytes n s = drop (length s - n) s

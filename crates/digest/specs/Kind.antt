@@ -4,7 +4,7 @@ use Rattle.quasigroup.specs.Tables.{Width, width32, width64}
 use Rattle.digest.specs.Pipe.{Pipe, written}
 use Rattle.digest.specs.Start.{start224, start256, start384, start512}
 use Rattle.digest.specs.Step.{word_bytes, step}
-use Rattle.digest.specs.Refusals.{isSize}
+use Rattle.digest.specs.Refusals.{is_size}
 
 pub record Kind : Type 0 where
   -- the length of a block in bytes
@@ -31,20 +31,20 @@ kind_of s small large smallStart largeStart =
       written = written (word_bytes s);
     }
 
-abbrev pub narrowKind : Kind
-narrowKind = kind_of width32 224 256 start224 start256
+abbrev pub narrow_kind : Kind
+narrow_kind = kind_of width32 224 256 start224 start256
 
-abbrev pub wideKind : Kind
-wideKind = kind_of width64 384 512 start384 start512
+abbrev pub wide_kind : Kind
+wide_kind = kind_of width64 384 512 start384 start512
 
 -- n is one of the kind's two sizes
-abbrev pub knownSize : Kind → ℕ → Bool
-knownSize k n = isSize k.small k.large n
+abbrev pub known_size : Kind → ℕ → Bool
+known_size k n = is_size k.small k.large n
 
 -- the kind of a size
-abbrev pub kindFor : ℕ → Kind
-kindFor n = cond (knownSize wideKind n) wideKind narrowKind
+abbrev pub kind_for : ℕ → Kind
+kind_for n = cond (known_size wide_kind n) wide_kind narrow_kind
 
 -- n is one of the four sizes (`FourSizes`)
 abbrev pub Known : ℕ → Type 0
-Known n = knownSize (kindFor n) n ≡ true
+Known n = known_size (kind_for n) n ≡ true

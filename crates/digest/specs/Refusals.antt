@@ -10,20 +10,20 @@ abbrev pub limit : ℕ
 limit = 2 ^ 61 - 1
 
 -- one of a kind's two sizes
-abbrev pub isSize : ℕ → ℕ → ℕ → Bool
-isSize small large n = eqb n small || eqb n large
+abbrev pub is_size : ℕ → ℕ → ℕ → Bool
+is_size small large n = eqb n small || eqb n large
 
 -- Document 01's "in form": what a state of this size and total must be to be fed or finished
-abbrev pub inForm : ℕ → ℕ → ℕ → ℕ → Bool
-inForm small large n total = isSize small large n && leb total limit
+abbrev pub in_form : ℕ → ℕ → ℕ → ℕ → Bool
+in_form small large n total = is_size small large n && leb total limit
 
 -- opening with size n; a success has the number 0, the total of the starting state
 abbrev pub opening : ℕ → ℕ → ℕ → Answer
-opening small large n = unless (isSize small large n) Size (Done 0)
+opening small large n = unless (is_size small large n) Size (Done 0)
 
 -- feeding len bytes; a success has the new total
 abbrev pub feeding : ℕ → ℕ → ℕ → ℕ → ℕ → Answer
-feeding small large n total len = unless (inForm small large n total) State (unless (leb (total + len) limit) Length (Done (total + len)))
+feeding small large n total len = unless (in_form small large n total) State (unless (leb (total + len) limit) Length (Done (total + len)))
 
 -- a digest of size n goes into an output of room bytes; a success has its length
 abbrev pub delivering : ℕ → ℕ → Answer
@@ -31,17 +31,17 @@ delivering n room = unless (leb (n / 8) room) Output (Done (n / 8))
 
 -- finishing into an output of room bytes
 abbrev pub finishing : ℕ → ℕ → ℕ → ℕ → ℕ → Answer
-finishing small large n total room = unless (inForm small large n total) State (delivering n room)
+finishing small large n total room = unless (in_form small large n total) State (delivering n room)
 
 -- finishing with count bits of a last byte
-abbrev pub finishingBits : ℕ → ℕ → ℕ → ℕ → ℕ → ℕ → Answer
-finishingBits small large n total count room = unless (inForm small large n total) State (unless (leb count 7) BitCount (delivering n room))
+abbrev pub finishing_bits : ℕ → ℕ → ℕ → ℕ → ℕ → ℕ → Answer
+finishing_bits small large n total count room = unless (in_form small large n total) State (unless (leb count 7) BitCount (delivering n room))
 
 -- the digest of len bytes in one call
 abbrev pub digesting : ℕ → ℕ → ℕ → ℕ → ℕ → Answer
-digesting small large n len room = unless (isSize small large n) Size (unless (leb len limit) Length (delivering n room))
+digesting small large n len room = unless (is_size small large n) Size (unless (leb len limit) Length (delivering n room))
 
 -- opening, feeding len bytes and finishing with count bits of a last byte, by a caller who stops at the first refusal
-abbrev pub digestingBits : ℕ → ℕ → ℕ → ℕ → ℕ → ℕ → Answer
-digestingBits small large n len count room =
-    unless (isSize small large n) Size (unless (leb len limit) Length (unless (leb count 7) BitCount (delivering n room)))
+abbrev pub digesting_bits : ℕ → ℕ → ℕ → ℕ → ℕ → ℕ → Answer
+digesting_bits small large n len count room =
+    unless (is_size small large n) Size (unless (leb len limit) Length (unless (leb count 7) BitCount (delivering n room)))

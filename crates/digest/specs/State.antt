@@ -3,10 +3,10 @@
 use Rattle.std.specs.Prelude.{Bool, List, [], ◌∷◌, ◌++◌, ℕ, ◌+◌, ◌*◌, ◌/◌, ◌%◌, length, take, drop, replicate}
 use Rattle.answer.specs.declared.Answer.{Answer}
 use Rattle.digest.specs.Padding.{ending, marked}
-use Rattle.digest.specs.Blocks.{compressed, rest, filled, lastBytes}
+use Rattle.digest.specs.Blocks.{compressed, rest, filled, last_bytes}
 use Rattle.digest.specs.Pipe.{Pipe}
 use Rattle.answer.specs.Refuse.{outcome}
-use Rattle.digest.specs.Refusals.{inForm, opening, feeding, finishing, finishingBits}
+use Rattle.digest.specs.Refusals.{in_form, opening, feeding, finishing, finishing_bits}
 use Rattle.digest.specs.Kind.{Kind}
 
 -- `waiting` has room for a block; how many of its bytes wait is the total modulo the block length
@@ -19,7 +19,7 @@ pub record Hash : Type 0 where
 module _ (k : Kind) where
   -- the state is in form
   abbrev pub formed : Hash → Bool
-  formed h = inForm k.small k.large h.size h.total
+  formed h = in_form k.small k.large h.size h.total
 
   -- the bytes fed and not yet part of a whole block; document 01's term is "waiting"
   abbrev pub pending : Hash → List ℕ
@@ -40,11 +40,11 @@ module _ (k : Kind) where
         total = 0;
       }
 
-  abbrev pub openAnswer : ℕ → Answer
-  openAnswer n = opening k.small k.large n
+  abbrev pub open_answer : ℕ → Answer
+  open_answer n = opening k.small k.large n
 
-  abbrev pub openState : ℕ → Hash
-  openState n = outcome (openAnswer n) (opened n) zeros
+  abbrev pub open_state : ℕ → Hash
+  open_state n = outcome (open_answer n) (opened n) zeros
 
   -- ---- feeding
 
@@ -58,16 +58,16 @@ module _ (k : Kind) where
         total = h.total + length s;
       }
 
-  abbrev pub feedAnswer : Hash → List ℕ → Answer
-  feedAnswer h s = feeding k.small k.large h.size h.total (length s)
+  abbrev pub feed_answer : Hash → List ℕ → Answer
+  feed_answer h s = feeding k.small k.large h.size h.total (length s)
 
-  abbrev pub feedState : Hash → List ℕ → Hash
-  feedState h s = outcome (feedAnswer h s) (advanced h s) h
+  abbrev pub feed_state : Hash → List ℕ → Hash
+  feed_state h s = outcome (feed_answer h s) (advanced h s) h
 
   -- the state after a list of pieces, fed one after the other
-  abbrev pub feedAll : Hash → List (List ℕ) → Hash
-  feedAll h [] = h
-  feedAll h (s ∷ ss) = feedAll (feedState h s) ss
+  abbrev pub feed_all : Hash → List (List ℕ) → Hash
+  feed_all h [] = h
+  feed_all h (s ∷ ss) = feed_all (feed_state h s) ss
 
   -- ---- finishing: it takes the state by value, so the state stays as it is
 
@@ -77,25 +77,25 @@ module _ (k : Kind) where
 
   -- the digest of size n is the last n/8 bytes of a pipe written out
   abbrev pub cut : ℕ → Pipe → List ℕ
-  cut n p = lastBytes (n / 8) (k.written p)
+  cut n p = last_bytes (n / 8) (k.written p)
 
   abbrev pub finished : Hash → List ℕ
   finished h = cut h.size (closed h.pipe (pending h) h.total 0x80 (8 * h.total))
 
-  abbrev pub finishAnswer : Hash → List ℕ → Answer
-  finishAnswer h out = finishing k.small k.large h.size h.total (length out)
+  abbrev pub finish_answer : Hash → List ℕ → Answer
+  finish_answer h out = finishing k.small k.large h.size h.total (length out)
 
   -- the output afterwards: the digest, and then what stood behind it
-  abbrev pub finishOut : Hash → List ℕ → List ℕ
-  finishOut h out = outcome (finishAnswer h out) (finished h ++ drop (h.size / 8) out) out
+  abbrev pub finish_out : Hash → List ℕ → List ℕ
+  finish_out h out = outcome (finish_answer h out) (finished h ++ drop (h.size / 8) out) out
 
   -- ---- finishing with the count highest bits of a last byte behind the bytes that were fed
 
-  abbrev pub finishedBits : Hash → ℕ → ℕ → List ℕ
-  finishedBits h last count = cut h.size (closed h.pipe (pending h) h.total (marked last count) (8 * h.total + count))
+  abbrev pub finished_bits : Hash → ℕ → ℕ → List ℕ
+  finished_bits h last count = cut h.size (closed h.pipe (pending h) h.total (marked last count) (8 * h.total + count))
 
-  abbrev pub finishBitsAnswer : Hash → ℕ → List ℕ → Answer
-  finishBitsAnswer h count out = finishingBits k.small k.large h.size h.total count (length out)
+  abbrev pub finish_bits_answer : Hash → ℕ → List ℕ → Answer
+  finish_bits_answer h count out = finishing_bits k.small k.large h.size h.total count (length out)
 
-  abbrev pub finishBitsOut : Hash → ℕ → ℕ → List ℕ → List ℕ
-  finishBitsOut h last count out = outcome (finishBitsAnswer h count out) (finishedBits h last count ++ drop (h.size / 8) out) out
+  abbrev pub finish_bits_out : Hash → ℕ → ℕ → List ℕ → List ℕ
+  finish_bits_out h last count out = outcome (finish_bits_answer h count out) (finished_bits h last count ++ drop (h.size / 8) out) out

@@ -1,6 +1,6 @@
 -- One block: 001, Definition 8, and document 01, "The digest", at any width.
 use Rattle.std.specs.Prelude.{List, ℕ, ◌*◌, ◌/◌}
-use Rattle.memory.specs.Bytes.{wordsAt}
+use Rattle.memory.specs.Bytes.{words_at}
 use Rattle.quasigroup.specs.Tables.{Width}
 use Rattle.quasigroup.specs.Product.{product}
 use Rattle.quasigroup.specs.Vector.{reversed}
@@ -14,8 +14,8 @@ c0Of p = p.second
 abbrev pub c1Of : Pipe → List ℕ
 c1Of p = p.first
 
-abbrev pub pipeFrom : List ℕ → List ℕ → Pipe
-pipeFrom C0 C1 = record { first = C1; second = C0 }
+abbrev pub pipe_from : List ℕ → List ℕ → Pipe
+pipe_from C0 C1 = record { first = C1; second = C0 }
 
 -- how many bytes a word has
 abbrev pub word_bytes : Width → ℕ
@@ -36,11 +36,11 @@ module _ (s : Width) where
       record { first = D7; second = D8 }
 
   -- words 0 to 7 of a block, and words 8 to 15
-  abbrev pub blockX : List ℕ → List ℕ
-  blockX m = wordsAt (word_bytes s) 8 m 0
+  abbrev pub block_x : List ℕ → List ℕ
+  block_x m = words_at (word_bytes s) 8 m 0
 
-  abbrev pub blockY : List ℕ → List ℕ
-  blockY m = wordsAt (word_bytes s) 8 m (8 * word_bytes s)
+  abbrev pub block_y : List ℕ → List ℕ
+  block_y m = words_at (word_bytes s) 8 m (8 * word_bytes s)
 
   -- the pipe p after a block whose halves are X and Y
   abbrev pub forward : Pipe → List ℕ → List ℕ → Pipe
@@ -48,4 +48,4 @@ module _ (s : Width) where
 
   -- the pipe p after a block m in bytes
   unfoldable pub step : Pipe → List ℕ → Pipe
-  step p m = forward p (blockX m) (blockY m)
+  step p m = forward p (block_x m) (block_y m)

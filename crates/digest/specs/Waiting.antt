@@ -2,7 +2,7 @@
 -- every state that code can hold: one whose `waiting` is a block long. Of size, pipe and total nothing is asked.
 use Rattle.std.specs.Prelude.{◌≡◌, List, ℕ, ◌-◌, ◌%◌, length, take, drop, replicate}
 use Rattle.digest.specs.Kind.{Kind}
-use Rattle.digest.specs.State.{Hash, opened, advanced, feedAnswer, finishAnswer, finishOut, finishBitsAnswer, finishBitsOut}
+use Rattle.digest.specs.State.{Hash, opened, advanced, feed_answer, finish_answer, finish_out, finish_bits_answer, finish_bits_out}
 
 abbrev pub Held : Kind → Hash → Type 0
 Held k h = length h.waiting ≡ k.block
@@ -19,11 +19,11 @@ pub record Alike (k : Kind) (g h : Hash) : Type 0 where
   pub pending : take (g.total % k.block) g.waiting ≡ take (h.total % k.block) h.waiting
 
 pub record Waiting (k : Kind) : Type 0 where
-  pub openedClean : (n : ℕ) → Held k (opened k n) × Clean k (opened k n)
-  pub fedClean : (h : Hash) (s : List ℕ) → Held k h → Held k (advanced k h s) × Clean k (advanced k h s)
+  pub opened_clean : (n : ℕ) → Held k (opened k n) × Clean k (opened k n)
+  pub fed_clean : (h : Hash) (s : List ℕ) → Held k h → Held k (advanced k h s) × Clean k (advanced k h s)
   -- alike states answer alike, an accepted feeding takes them to the same state, and a finishing writes the same
-  pub fedAlike : (g h : Hash) → Alike k g h → (s : List ℕ) → (feedAnswer k g s ≡ feedAnswer k h s) × (advanced k g s ≡ advanced k h s)
-  pub finishedAlike : (g h : Hash) → Alike k g h → (out : List ℕ)
-      → (finishAnswer k g out ≡ finishAnswer k h out) × (finishOut k g out ≡ finishOut k h out)
-  pub bitsAlike : (g h : Hash) → Alike k g h → (last count : ℕ) (out : List ℕ)
-      → (finishBitsAnswer k g count out ≡ finishBitsAnswer k h count out) × (finishBitsOut k g last count out ≡ finishBitsOut k h last count out)
+  pub fed_alike : (g h : Hash) → Alike k g h → (s : List ℕ) → (feed_answer k g s ≡ feed_answer k h s) × (advanced k g s ≡ advanced k h s)
+  pub finished_alike : (g h : Hash) → Alike k g h → (out : List ℕ)
+      → (finish_answer k g out ≡ finish_answer k h out) × (finish_out k g out ≡ finish_out k h out)
+  pub bits_alike : (g h : Hash) → Alike k g h → (last count : ℕ) (out : List ℕ)
+      → (finish_bits_answer k g count out ≡ finish_bits_answer k h count out) × (finish_bits_out k g last count out ≡ finish_bits_out k h last count out)

@@ -2,7 +2,7 @@
 use Rattle.std.specs.Prelude.{List, [], ◌∷◌, ◌++◌, ℕ, suc}
 use Rattle.answer.specs.declared.Answer.{Answer}
 use Rattle.answer.specs.declared.Answer.TheVariants.{Done, Refused}
-use Rattle.hamming.specs.Counts.{flippedCounts, flippedAnswer}
+use Rattle.hamming.specs.Counts.{flipped_counts, flipped_answer}
 use Rattle.text.specs.Decimal.{decimal, spaced}
 use Rattle.text.specs.Label.{labelled, refused}
 
@@ -16,14 +16,14 @@ lines k [] = []
 lines k (c ∷ l) = line k c ++ lines (suc k) l
 
 -- total, the sum
-abbrev pub totalLine : ℕ → List ℕ
-totalLine n = labelled (116 ∷ 111 ∷ 116 ∷ 97 ∷ 108 ∷ []) n ++ (10 ∷ [])
+abbrev pub total_line : ℕ → List ℕ
+total_line n = labelled (116 ∷ 111 ∷ 116 ∷ 97 ∷ 108 ∷ []) n ++ (10 ∷ [])
 
 -- what is printed for the counts l and the call's answer: a line for each record, numbers from 1, and the sum; or refused and the number only
 abbrev pub told : List ℕ → Answer → List ℕ
-told l (Done n) = lines 1 l ++ totalLine n
+told l (Done n) = lines 1 l ++ total_line n
 told l (Refused r at) = refused r ++ (10 ∷ [])
 
 -- the program lends the call 1,024 counts, as many as there can be records
 abbrev pub report : List ℕ → List ℕ
-report s = told (flippedCounts s) (flippedAnswer s 1024)
+report s = told (flipped_counts s) (flipped_answer s 1024)

@@ -3,7 +3,7 @@ ghost use Rattle.std.specs.Prelude.{◌≡◌, [], ◌∷◌, ◌++◌, ◌+◌,
 ghost use Rattle.std.proofs.lemmas.List.Edits.{sets};
 ghost use Rattle.text.specs.Label.{refused};
 ghost use Rattle.text.specs.Pushed.{Pushed};
-ghost use Rattle.distance_report.specs.Report.{line, lines, totalLine};
+ghost use Rattle.distance_report.specs.Report.{line, lines, total_line};
 ghost use Rattle.distance_report.specs.Report.{report as reportOf};
 
 use answer::{Answer, Refusal};
@@ -40,7 +40,7 @@ fn push_lines(out: &mut [u8], counts: &[u16]) -> usize
 // The last line.
 fn push_total(out: &mut [u8], at: usize, sum: u64) -> usize
     requires { at < 700000 }
-    ensures pushed { Pushed out.old at (totalLine sum) out.new result }
+    ensures pushed { Pushed out.old at (total_line sum) out.new result }
     ensures upper_bound { result ≤ at + 27 }
 {
     let word = [b't', b'o', b't', b'a', b'l'];

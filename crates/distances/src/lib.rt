@@ -2,13 +2,13 @@
 ghost use Rattle.std.specs.Prelude.{◌≡◌, ◌++◌, ◌+◌, ◌≤◌, length, drop};
 ghost use Rattle.hamming.specs.Distance.{distance};
 ghost use Rattle.memory.specs.Lists.{bytes_at, total};
-ghost use Rattle.hamming.specs.Counts.{pairCount, flippedCounts, wholePairs, flippedAnswer, countsAfter};
+ghost use Rattle.hamming.specs.Counts.{pair_count, flipped_counts, whole_pairs, flipped_answer, counts_after};
 
 use answer::{Answer, Refusal};
 
 // Whether records may have `n` bytes.
 fn whole_pairs(n: usize) -> bool
-    ensures { result ≡ wholePairs n }
+    ensures { result ≡ whole_pairs n }
 {
     if n % 64 != 0 {
         return false;
@@ -42,9 +42,9 @@ fn record_distance(s: &[u8], at: usize) -> u32
 
 // A count for each record, to its place in `counts`; the answer is their sum.
 fn count_records(records: &[u8], counts: &mut [u16]) -> u64
-    requires { let m = length records.now in (m ≤ 65536) × (pairCount m ≤ length counts.old) }
-    ensures value { result ≡ total (flippedCounts records.now) }
-    ensures counts_after { let s = records.now in counts.new ≡ flippedCounts s ++ drop (pairCount (length s)) counts.old }
+    requires { let m = length records.now in (m ≤ 65536) × (pair_count m ≤ length counts.old) }
+    ensures value { result ≡ total (flipped_counts records.now) }
+    ensures counts_after { let s = records.now in counts.new ≡ flipped_counts s ++ drop (pair_count (length s)) counts.old }
 {
     let n = records.len() / 64;
     let mut sum: u64 = 0;
@@ -60,8 +60,8 @@ fn count_records(records: &[u8], counts: &mut [u16]) -> u64
 
 // A count for each record, to the start of `counts`; what stands behind them stays. A success answers the sum.
 pub fn flipped_bits(records: &[u8], counts: &mut [u16]) -> Answer
-    ensures value { result ≡ flippedAnswer records.now (length counts.old) }
-    ensures counts_after { counts.new ≡ countsAfter records.now counts.old }
+    ensures value { result ≡ flipped_answer records.now (length counts.old) }
+    ensures counts_after { counts.new ≡ counts_after records.now counts.old }
 {
     let whole = whole_pairs(records.len());
     let room = records.len() / 64 <= counts.len();

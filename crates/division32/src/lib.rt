@@ -6,9 +6,9 @@ ghost use Rattle.std.specs.Prelude.{◌≡◌, [], ◌-◌, ◌<◌, get_or};
 ghost use Rattle.word.specs.Word.{minus, rotl};
 ghost use Rattle.quasigroup.specs.Tables.{width32};
 ghost use Rattle.quasigroup.specs.Product.{pick, xor};
-ghost use Rattle.quasigroup.specs.Division.{leftUnxors, rightUnxors, left_inverse, right_inverse, unrotatedSums, unsums, separated};
+ghost use Rattle.quasigroup.specs.Division.{left_unxors, right_unxors, left_inverse, right_inverse, unrotated_sums, unsums, separated};
 ghost use Rattle.quasigroup.specs.Division.{unleft, unright};
-ghost use Rattle.halves.specs.Balance.{balance, twoFifths};
+ghost use Rattle.halves.specs.Balance.{balance, two_fifths};
 
 // The result's words in the order of the combinations, less the half that is known. As with the product's halves, a caller that divides where
 // it counts puts a division together from its parts.
@@ -86,7 +86,7 @@ fn less_three(u: u32, s: [u32; 8], n: [usize; 3]) -> u32
 
 // Two fifths of the sum of all words.
 fn two_fifths(s: [u32; 8]) -> u32
-    ensures { result ≡ twoFifths 32 s }
+    ensures { result ≡ two_fifths 32 s }
 {
     let four = word::add32(s[4], word::add32(s[5], word::add32(s[6], s[7])));
     let all = word::add32(
@@ -98,7 +98,7 @@ fn two_fifths(s: [u32; 8]) -> u32
 }
 
 fn left_unrotated(z: [u32; 8]) -> [u32; 8]
-    ensures { result ≡ unrotatedSums 32 0xaaaa_aaaa width32.leftAmounts leftUnxors z }
+    ensures { result ≡ unrotated_sums 32 0xaaaa_aaaa width32.left_amounts left_unxors z }
 {
     let p = tables::LEFT_UNXORS;
     let r = tables::AMOUNTS[0];
@@ -141,7 +141,7 @@ pub fn left_undone(z: [u32; 8]) -> [u32; 8]
 
 // The right half's square of sums undoes its XOR step.
 fn right_unrotated(z: [u32; 8]) -> [u32; 8]
-    ensures { result ≡ unrotatedSums 32 0x5555_5555 width32.rightAmounts rightUnxors z }
+    ensures { result ≡ unrotated_sums 32 0x5555_5555 width32.right_amounts right_unxors z }
 {
     let q = tables::RIGHT_SUMS;
     let r = tables::AMOUNTS[1];

@@ -9,8 +9,8 @@ use Rattle.pieces.specs.declared.WidePiece.{WidePiece}
 use Rattle.pieces.specs.contracts.NarrowPiece as NP
 use Rattle.pieces.specs.contracts.WidePiece as WP
 
-abbrev pub narrow-types : Types
-narrow-types =
+abbrev pub narrow_types : Types
+narrow_types =
     record {
       S = N.the_type;
       S-laws = N'.the_laws;
@@ -25,8 +25,8 @@ narrow-types =
       one = (NP.the_type).to_one;
     }
 
-abbrev pub wide-types : Types
-wide-types =
+abbrev pub wide_types : Types
+wide_types =
     record {
       S = W.the_type;
       S-laws = W'.the_laws;

@@ -1,28 +1,28 @@
 // What C sees. An answer is one 64-bit number: a success's own number, or 2^32 times the refusal number plus the offset. Feeding and the layouts of records,
 // whose success can pass 2^32, mark a refusal with bit 63 besides.
 ghost use Rattle.std.specs.Prelude.{◌≡◌, ◌^◌, length};
-ghost use Rattle.answer.specs.Number.{number_of, markedNumber};
+ghost use Rattle.answer.specs.Number.{number_of, marked_number};
 ghost use Rattle.answer.specs.Injective.{Fits};
 ghost use Rattle.answer.specs.Refuse.{outcome};
 ghost use Rattle.quasigroup.specs.Product.{product};
-ghost use Rattle.quasigroup.specs.Division.{leftDivision, rightDivision};
-ghost use Rattle.operands.specs.Operation.{answerFor, outputAfter};
-ghost use Rattle.digest.specs.Kind.{narrowKind, wideKind};
-ghost use Rattle.digest.specs.State.{openAnswer, opened, finishAnswer, finishOut, finishBitsAnswer, finishBitsOut};
-ghost use Rattle.digest.specs.OneCall.{oneCallAnswer, oneCallOut};
-ghost use Rattle.batch.specs.Batch.{batchAnswer, batchOut};
+ghost use Rattle.quasigroup.specs.Division.{left_division, right_division};
+ghost use Rattle.operands.specs.Operation.{answer_for, output_after};
+ghost use Rattle.digest.specs.Kind.{narrow_kind, wide_kind};
+ghost use Rattle.digest.specs.State.{open_answer, opened, finish_answer, finish_out, finish_bits_answer, finish_bits_out};
+ghost use Rattle.digest.specs.OneCall.{one_call_answer, one_call_out};
+ghost use Rattle.batch.specs.Batch.{batch_answer, batch_out};
 ghost use Rattle.invertible.specs.RoundTrip.{Forward, Backward};
-ghost use Rattle.sheet.specs.Run.{runAnswer, runBytes};
-ghost use Rattle.slice.specs.Slice.{sliceAnswer, sliceBytes};
-ghost use Rattle.slice.specs.Number.{sliceNumber};
-ghost use Rattle.inverse.specs.Inverse.{inverseAnswer, inverseOut};
-ghost use Rattle.pipe.specs.Call.{stepAnswer, stepBytes};
-ghost use Rattle.shuffle.specs.Shuffle.{recordsAnswer, shuffleOut, unshuffleOut};
-ghost use Rattle.replay.specs.Replay.{replayAnswer};
-ghost use Rattle.replay.specs.Number.{replayNumber, findingAfter};
-ghost use Rattle.hamming.specs.Counts.{flippedAnswer, countsAfter};
-ghost use Rattle.narrow.specs.Outcomes.{narrowOf, hashOf as ofNarrow, fed as fedNarrow};
-ghost use Rattle.wide.specs.Outcomes.{wide_of, hashOf as ofWide, fed as fedWide};
+ghost use Rattle.sheet.specs.Run.{run_answer, run_bytes};
+ghost use Rattle.slice.specs.Slice.{slice_answer, slice_bytes};
+ghost use Rattle.slice.specs.Number.{slice_number};
+ghost use Rattle.inverse.specs.Inverse.{inverse_answer, inverse_out};
+ghost use Rattle.pipe.specs.Call.{step_answer, step_bytes};
+ghost use Rattle.shuffle.specs.Shuffle.{records_answer, shuffle_out, unshuffle_out};
+ghost use Rattle.replay.specs.Replay.{replay_answer};
+ghost use Rattle.replay.specs.Number.{replay_number, finding_after};
+ghost use Rattle.hamming.specs.Counts.{flipped_answer, counts_after};
+ghost use Rattle.narrow.specs.Outcomes.{narrow_of, hash_of as ofNarrow, fed as fedNarrow};
+ghost use Rattle.wide.specs.Outcomes.{wide_of, hash_of as ofWide, fed as fedWide};
 
 use narrow::Narrow;
 use wide::Wide;
@@ -30,8 +30,8 @@ use wide::Wide;
 // X*Y, into the first `width` bytes of `out`.
 #[unsafe(no_mangle)]
 pub extern "C" fn edonr_product(width: u32, x: &[u8], y: &[u8], out: &mut [u8]) -> u64
-    ensures value { result ≡ number_of (answerFor width x.now y.now out.old) }
-    ensures out_after { out.new ≡ outputAfter product width x.now y.now out.old }
+    ensures value { result ≡ number_of (answer_for width x.now y.now out.old) }
+    ensures out_after { out.new ≡ output_after product width x.now y.now out.old }
 {
     answer::number(buffer::product(width, x, y, out))
 }
@@ -39,8 +39,8 @@ pub extern "C" fn edonr_product(width: u32, x: &[u8], y: &[u8], out: &mut [u8]) 
 // a\b, into the first `width` bytes of `out`.
 #[unsafe(no_mangle)]
 pub extern "C" fn edonr_left_division(width: u32, a: &[u8], b: &[u8], out: &mut [u8]) -> u64
-    ensures value { result ≡ number_of (answerFor width a.now b.now out.old) }
-    ensures out_after { out.new ≡ outputAfter leftDivision width a.now b.now out.old }
+    ensures value { result ≡ number_of (answer_for width a.now b.now out.old) }
+    ensures out_after { out.new ≡ output_after left_division width a.now b.now out.old }
 {
     answer::number(buffer::left_division(width, a, b, out))
 }
@@ -48,8 +48,8 @@ pub extern "C" fn edonr_left_division(width: u32, a: &[u8], b: &[u8], out: &mut 
 // b/a, into the first `width` bytes of `out`.
 #[unsafe(no_mangle)]
 pub extern "C" fn edonr_right_division(width: u32, b: &[u8], a: &[u8], out: &mut [u8]) -> u64
-    ensures value { result ≡ number_of (answerFor width b.now a.now out.old) }
-    ensures out_after { out.new ≡ outputAfter rightDivision width b.now a.now out.old }
+    ensures value { result ≡ number_of (answer_for width b.now a.now out.old) }
+    ensures out_after { out.new ≡ output_after right_division width b.now a.now out.old }
 {
     answer::number(buffer::right_division(width, b, a, out))
 }
@@ -57,8 +57,8 @@ pub extern "C" fn edonr_right_division(width: u32, b: &[u8], a: &[u8], out: &mut
 // The digest of `message` of `size` bits, into the first `size` / 8 bytes of `out`.
 #[unsafe(no_mangle)]
 pub extern "C" fn edonr_digest(size: u32, message: &[u8], out: &mut [u8]) -> u64
-    ensures value { result ≡ number_of (oneCallAnswer size message.now out.old) }
-    ensures out_after { out.new ≡ oneCallOut size message.now out.old }
+    ensures value { result ≡ number_of (one_call_answer size message.now out.old) }
+    ensures out_after { out.new ≡ one_call_out size message.now out.old }
 {
     answer::number(one_call::digest(size, message, out))
 }
@@ -66,8 +66,8 @@ pub extern "C" fn edonr_digest(size: u32, message: &[u8], out: &mut [u8]) -> u64
 // The digests of `size` bits of all messages, joined in `messages` and with the lengths in `lengths`, into the first bytes of `out`, `size` / 8 for each.
 #[unsafe(no_mangle)]
 pub extern "C" fn edonr_digests(size: u32, messages: &[u8], lengths: &[u32], out: &mut [u8]) -> u64
-    ensures value { result ≡ number_of (batchAnswer size (length messages.now) lengths.now (length out.old)) }
-    ensures out_after { out.new ≡ batchOut size messages.now lengths.now out.old }
+    ensures value { result ≡ number_of (batch_answer size (length messages.now) lengths.now (length out.old)) }
+    ensures out_after { out.new ≡ batch_out size messages.now lengths.now out.old }
 {
     answer::number(batch_call::digests(size, messages, lengths, out))
 }
@@ -75,8 +75,8 @@ pub extern "C" fn edonr_digests(size: u32, messages: &[u8], lengths: &[u32], out
 // A forward run of the sheet over the lent vectors.
 #[unsafe(no_mangle)]
 pub extern "C" fn edonr_run_forward(width: u32, vectors: &mut [u8], sheet: &[u8]) -> u64
-    ensures value { result ≡ number_of (runAnswer width sheet.now vectors.old) }
-    ensures vectors_after { vectors.new ≡ runBytes Forward width sheet.now vectors.old }
+    ensures value { result ≡ number_of (run_answer width sheet.now vectors.old) }
+    ensures vectors_after { vectors.new ≡ run_bytes Forward width sheet.now vectors.old }
 {
     answer::number(run::run_forward(width, vectors, sheet))
 }
@@ -84,8 +84,8 @@ pub extern "C" fn edonr_run_forward(width: u32, vectors: &mut [u8], sheet: &[u8]
 // A backward run of the sheet over the lent vectors: it undoes a forward run.
 #[unsafe(no_mangle)]
 pub extern "C" fn edonr_run_backward(width: u32, vectors: &mut [u8], sheet: &[u8]) -> u64
-    ensures value { result ≡ number_of (runAnswer width sheet.now vectors.old) }
-    ensures vectors_after { vectors.new ≡ runBytes Backward width sheet.now vectors.old }
+    ensures value { result ≡ number_of (run_answer width sheet.now vectors.old) }
+    ensures vectors_after { vectors.new ≡ run_bytes Backward width sheet.now vectors.old }
 {
     answer::number(run::run_backward(width, vectors, sheet))
 }
@@ -99,8 +99,8 @@ pub extern "C" fn edonr_run_slice(
     offset: u32,
     budget: u16,
 ) -> u64
-    ensures value { result ≡ sliceNumber (sliceAnswer budget width sheet.now offset vectors.old) }
-    ensures vectors_after { vectors.new ≡ sliceBytes budget width sheet.now offset vectors.old }
+    ensures value { result ≡ slice_number (slice_answer budget width sheet.now offset vectors.old) }
+    ensures vectors_after { vectors.new ≡ slice_bytes budget width sheet.now offset vectors.old }
 {
     slice::number(slicer::run_slice(width, vectors, sheet, offset, budget))
 }
@@ -114,9 +114,9 @@ pub extern "C" fn edonr_first_false_record(
     records: &[u8],
     finding: &mut [u64; 5],
 ) -> u64
-    ensures value { result ≡ replayNumber (replayAnswer width sheet.now vectors.now records.now) }
-    ensures finding_after { let a = replayAnswer width sheet.now vectors.now records.now in
-        finding.new ≡ findingAfter a finding.old }
+    ensures value { result ≡ replay_number (replay_answer width sheet.now vectors.now records.now) }
+    ensures finding_after { let a = replay_answer width sheet.now vectors.now records.now in
+        finding.new ≡ finding_after a finding.old }
 {
     replay::report(
         replayer::first_false_record(width, vectors, sheet, records),
@@ -127,8 +127,8 @@ pub extern "C" fn edonr_first_false_record(
 // The inverse of the sheet, into the first bytes of `out`, as many as the sheet has.
 #[unsafe(no_mangle)]
 pub extern "C" fn edonr_inverse_sheet(width: u32, sheet: &[u8], out: &mut [u8]) -> u64
-    ensures value { result ≡ number_of (inverseAnswer width sheet.now out.old) }
-    ensures out_after { out.new ≡ inverseOut width sheet.now out.old }
+    ensures value { result ≡ number_of (inverse_answer width sheet.now out.old) }
+    ensures out_after { out.new ≡ inverse_out width sheet.now out.old }
 {
     answer::number(inverter::inverse_sheet(width, sheet, out))
 }
@@ -137,9 +137,9 @@ pub extern "C" fn edonr_inverse_sheet(width: u32, sheet: &[u8], out: &mut [u8]) 
 // answer.
 #[unsafe(no_mangle)]
 pub extern "C" fn edonr_shuffle(width: u32, records: &[u8], out: &mut [u8]) -> u64
-    ensures value { result ≡ markedNumber (recordsAnswer width (length records.now) (length out.old)) }
-    ensures out_after { out.new ≡ shuffleOut width records.now out.old }
-    ensures fits { Fits (2 ^ 63) (recordsAnswer width (length records.now) (length out.old)) }
+    ensures value { result ≡ marked_number (records_answer width (length records.now) (length out.old)) }
+    ensures out_after { out.new ≡ shuffle_out width records.now out.old }
+    ensures fits { Fits (2 ^ 63) (records_answer width (length records.now) (length out.old)) }
 {
     answer::marked_number(shuffler::shuffle(width, records, out))
 }
@@ -147,9 +147,9 @@ pub extern "C" fn edonr_shuffle(width: u32, records: &[u8], out: &mut [u8]) -> u
 // The shuffled records, as they were, into the first bytes of `out`, as many as they have.
 #[unsafe(no_mangle)]
 pub extern "C" fn edonr_unshuffle(width: u32, records: &[u8], out: &mut [u8]) -> u64
-    ensures value { result ≡ markedNumber (recordsAnswer width (length records.now) (length out.old)) }
-    ensures out_after { out.new ≡ unshuffleOut width records.now out.old }
-    ensures fits { Fits (2 ^ 63) (recordsAnswer width (length records.now) (length out.old)) }
+    ensures value { result ≡ marked_number (records_answer width (length records.now) (length out.old)) }
+    ensures out_after { out.new ≡ unshuffle_out width records.now out.old }
+    ensures fits { Fits (2 ^ 63) (records_answer width (length records.now) (length out.old)) }
 {
     answer::marked_number(shuffler::unshuffle(width, records, out))
 }
@@ -157,8 +157,8 @@ pub extern "C" fn edonr_unshuffle(width: u32, records: &[u8], out: &mut [u8]) ->
 // In how many bits the two digests of each record differ, into the first elements of `counts`, one a record.
 #[unsafe(no_mangle)]
 pub extern "C" fn edonr_flipped_bits(records: &[u8], counts: &mut [u16]) -> u64
-    ensures value { result ≡ number_of (flippedAnswer records.now (length counts.old)) }
-    ensures counts_after { counts.new ≡ countsAfter records.now counts.old }
+    ensures value { result ≡ number_of (flipped_answer records.now (length counts.old)) }
+    ensures counts_after { counts.new ≡ counts_after records.now counts.old }
 {
     answer::number(distances::flipped_bits(records, counts))
 }
@@ -166,8 +166,8 @@ pub extern "C" fn edonr_flipped_bits(records: &[u8], counts: &mut [u16]) -> u64
 // The pipe after the block, in its place.
 #[unsafe(no_mangle)]
 pub extern "C" fn edonr_block_forward(width: u32, pipe: &mut [u8], block: &[u8]) -> u64
-    ensures value { result ≡ number_of (stepAnswer width block.now pipe.old) }
-    ensures pipe_after { pipe.new ≡ stepBytes Forward width block.now pipe.old }
+    ensures value { result ≡ number_of (step_answer width block.now pipe.old) }
+    ensures pipe_after { pipe.new ≡ step_bytes Forward width block.now pipe.old }
 {
     answer::number(lent_pipe::forward(width, pipe, block))
 }
@@ -175,8 +175,8 @@ pub extern "C" fn edonr_block_forward(width: u32, pipe: &mut [u8], block: &[u8])
 // The pipe before the block, in its place: it undoes a step forward.
 #[unsafe(no_mangle)]
 pub extern "C" fn edonr_block_backward(width: u32, pipe: &mut [u8], block: &[u8]) -> u64
-    ensures value { result ≡ number_of (stepAnswer width block.now pipe.old) }
-    ensures pipe_after { pipe.new ≡ stepBytes Backward width block.now pipe.old }
+    ensures value { result ≡ number_of (step_answer width block.now pipe.old) }
+    ensures pipe_after { pipe.new ≡ step_bytes Backward width block.now pipe.old }
 {
     answer::number(lent_pipe::backward(width, pipe, block))
 }
@@ -184,8 +184,8 @@ pub extern "C" fn edonr_block_backward(width: u32, pipe: &mut [u8], block: &[u8]
 // A narrow hash of `size` bits is opened in `hash`, whatever stood there; a refusal leaves what stood there.
 #[unsafe(no_mangle)]
 pub extern "C" fn edonr_narrow_open(hash: &mut Narrow, size: u32) -> u64
-    ensures { (result ≡ number_of (openAnswer narrowKind size))
-        × (hash.new ≡ outcome (openAnswer narrowKind size) (narrowOf (opened narrowKind size)) hash.old) }
+    ensures { (result ≡ number_of (open_answer narrow_kind size))
+        × (hash.new ≡ outcome (open_answer narrow_kind size) (narrow_of (opened narrow_kind size)) hash.old) }
 {
     let r = pieces::narrow_open(*hash, size);
     *hash = r.state;
@@ -195,7 +195,7 @@ pub extern "C" fn edonr_narrow_open(hash: &mut Narrow, size: u32) -> u64
 // `hash` takes `bytes`.
 #[unsafe(no_mangle)]
 pub extern "C" fn edonr_narrow_feed(hash: &mut Narrow, bytes: &[u8]) -> u64
-    ensures { (result ≡ markedNumber (fedNarrow hash.old bytes.now).answer)
+    ensures { (result ≡ marked_number (fedNarrow hash.old bytes.now).answer)
         × (hash.new ≡ (fedNarrow hash.old bytes.now).state) }
 {
     let r = pieces::narrow_feed(*hash, bytes);
@@ -206,8 +206,8 @@ pub extern "C" fn edonr_narrow_feed(hash: &mut Narrow, bytes: &[u8]) -> u64
 // The digest of what `hash` was fed, to the start of `out`; `hash` may be fed further.
 #[unsafe(no_mangle)]
 pub extern "C" fn edonr_narrow_finish(hash: &Narrow, out: &mut [u8]) -> u64
-    ensures { (result ≡ number_of (finishAnswer narrowKind (ofNarrow hash.now) out.old))
-        × (out.new ≡ finishOut narrowKind (ofNarrow hash.now) out.old) }
+    ensures { (result ≡ number_of (finish_answer narrow_kind (ofNarrow hash.now) out.old))
+        × (out.new ≡ finish_out narrow_kind (ofNarrow hash.now) out.old) }
 {
     pieces::narrow_finish(*hash, out)
 }
@@ -220,8 +220,8 @@ pub extern "C" fn edonr_narrow_finish_bits(
     count: u32,
     out: &mut [u8],
 ) -> u64
-    ensures { (result ≡ number_of (finishBitsAnswer narrowKind (ofNarrow hash.now) count out.old))
-        × (out.new ≡ finishBitsOut narrowKind (ofNarrow hash.now) last count out.old) }
+    ensures { (result ≡ number_of (finish_bits_answer narrow_kind (ofNarrow hash.now) count out.old))
+        × (out.new ≡ finish_bits_out narrow_kind (ofNarrow hash.now) last count out.old) }
 {
     pieces::narrow_finish_bits(*hash, last, count, out)
 }
@@ -229,8 +229,8 @@ pub extern "C" fn edonr_narrow_finish_bits(
 // A wide hash of `size` bits is opened in `hash`, whatever stood there; a refusal leaves what stood there.
 #[unsafe(no_mangle)]
 pub extern "C" fn edonr_wide_open(hash: &mut Wide, size: u32) -> u64
-    ensures { (result ≡ number_of (openAnswer wideKind size))
-        × (hash.new ≡ outcome (openAnswer wideKind size) (wide_of (opened wideKind size)) hash.old) }
+    ensures { (result ≡ number_of (open_answer wide_kind size))
+        × (hash.new ≡ outcome (open_answer wide_kind size) (wide_of (opened wide_kind size)) hash.old) }
 {
     let r = pieces::wide_open(*hash, size);
     *hash = r.state;
@@ -240,7 +240,7 @@ pub extern "C" fn edonr_wide_open(hash: &mut Wide, size: u32) -> u64
 // `hash` takes `bytes`.
 #[unsafe(no_mangle)]
 pub extern "C" fn edonr_wide_feed(hash: &mut Wide, bytes: &[u8]) -> u64
-    ensures { (result ≡ markedNumber (fedWide hash.old bytes.now).answer)
+    ensures { (result ≡ marked_number (fedWide hash.old bytes.now).answer)
         × (hash.new ≡ (fedWide hash.old bytes.now).state) }
 {
     let r = pieces::wide_feed(*hash, bytes);
@@ -251,8 +251,8 @@ pub extern "C" fn edonr_wide_feed(hash: &mut Wide, bytes: &[u8]) -> u64
 // The digest of what `hash` was fed, to the start of `out`; `hash` may be fed further.
 #[unsafe(no_mangle)]
 pub extern "C" fn edonr_wide_finish(hash: &Wide, out: &mut [u8]) -> u64
-    ensures { (result ≡ number_of (finishAnswer wideKind (ofWide hash.now) out.old))
-        × (out.new ≡ finishOut wideKind (ofWide hash.now) out.old) }
+    ensures { (result ≡ number_of (finish_answer wide_kind (ofWide hash.now) out.old))
+        × (out.new ≡ finish_out wide_kind (ofWide hash.now) out.old) }
 {
     pieces::wide_finish(*hash, out)
 }
@@ -260,8 +260,8 @@ pub extern "C" fn edonr_wide_finish(hash: &Wide, out: &mut [u8]) -> u64
 // The digest of what `hash` was fed and then the `count` highest bits of `last`, to the start of `out`; `hash` may be fed further.
 #[unsafe(no_mangle)]
 pub extern "C" fn edonr_wide_finish_bits(hash: &Wide, last: u8, count: u32, out: &mut [u8]) -> u64
-    ensures { (result ≡ number_of (finishBitsAnswer wideKind (ofWide hash.now) count out.old))
-        × (out.new ≡ finishBitsOut wideKind (ofWide hash.now) last count out.old) }
+    ensures { (result ≡ number_of (finish_bits_answer wide_kind (ofWide hash.now) count out.old))
+        × (out.new ≡ finish_bits_out wide_kind (ofWide hash.now) last count out.old) }
 {
     pieces::wide_finish_bits(*hash, last, count, out)
 }

@@ -2,12 +2,12 @@
 ghost use Rattle.std.specs.Prelude.{◌≡◌, ◌+◌, ◌*◌, ◌<◌, ◌≤◌, length, set};
 ghost use Rattle.quasigroup.specs.Tables.{width64};
 ghost use Rattle.quasigroup.specs.Product.{product};
-ghost use Rattle.quasigroup.specs.Division.{leftDivision, rightDivision};
+ghost use Rattle.quasigroup.specs.Division.{left_division, right_division};
 ghost use Rattle.quasigroup.specs.Vector.{reversed};
-ghost use Rattle.sheet.specs.Read.{placeCount};
-ghost use Rattle.sheet.specs.Effect.{vectorAt, effect};
+ghost use Rattle.sheet.specs.Read.{place_count};
+ghost use Rattle.sheet.specs.Effect.{vector_at, effect};
 ghost use Rattle.sheet.specs.Effect.{at as place};
-ghost use Rattle.sheet.specs.Run.{vectorsIn};
+ghost use Rattle.sheet.specs.Run.{vectors_in};
 ghost use Rattle.sheet.specs.Sound.{SoundCommand};
 
 use sheet::Command;
@@ -15,23 +15,23 @@ use sheet::Command;
 // The vector whose bytes stand at `at`.
 fn vector_at(s: &[u8], at: usize) -> [u64; 8]
     requires { at + 64 ≤ length s.now }
-    ensures { result ≡ vectorAt 64 s.now at }
+    ensures { result ≡ vector_at 64 s.now at }
 {
     memory64::load_vector(&s[at..])
 }
 
 // The vector at place `i`.
 fn get(vectors: &[u8], i: usize) -> [u64; 8]
-    requires { (length vectors.now ≡ placeCount * 64) × (i < placeCount) }
-    ensures { result ≡ place (vectorsIn 64 vectors.now) i }
+    requires { (length vectors.now ≡ place_count * 64) × (i < place_count) }
+    ensures { result ≡ place (vectors_in 64 vectors.now) i }
 {
     vector_at(vectors, i * 64)
 }
 
 // `x` as the vector at place `i`.
 fn put(vectors: &mut [u8], i: usize, x: [u64; 8])
-    requires { (length vectors.old ≡ placeCount * 64) × (i < placeCount) }
-    ensures { vectorsIn 64 vectors.new ≡ set (vectorsIn 64 vectors.old) i x }
+    requires { (length vectors.old ≡ place_count * 64) × (i < place_count) }
+    ensures { vectors_in 64 vectors.new ≡ set (vectors_in 64 vectors.old) i x }
 {
     let at = i * 64;
     memory64::store_vector(&mut vectors[at..], x);
@@ -40,9 +40,9 @@ fn put(vectors: &mut [u8], i: usize, x: [u64; 8])
 // The vector at place `d` becomes the product of those at places `i` and `j`. The product is made of its halves here and not called, so that
 // its words go straight into the lent bytes: through memory and back they would cost as much as the product itself.
 fn multiply_places(vectors: &mut [u8], d: usize, i: usize, j: usize)
-    requires { (length vectors.old ≡ placeCount * 64) × (d < placeCount) × (i < placeCount) × (j < placeCount) }
-    ensures { let v = vectorsIn 64 vectors.old in
-        vectorsIn 64 vectors.new ≡ set v d (product width64 (place v i) (place v j)) }
+    requires { (length vectors.old ≡ place_count * 64) × (d < place_count) × (i < place_count) × (j < place_count) }
+    ensures { let v = vectors_in 64 vectors.old in
+        vectors_in 64 vectors.new ≡ set v d (product width64 (place v i) (place v j)) }
 {
     let x = get(vectors, i);
     let y = get(vectors, j);
@@ -55,9 +55,9 @@ fn multiply_places(vectors: &mut [u8], d: usize, i: usize, j: usize)
 
 // The vector at place `d` becomes its product with the vector at offset `k` of the sheet, that one first; made of its halves as above.
 fn multiply_by(vectors: &mut [u8], d: usize, sheet: &[u8], k: usize)
-    requires { (length vectors.old ≡ placeCount * 64) × (d < placeCount) × (k + 64 ≤ length sheet.now) }
-    ensures { let v = vectorsIn 64 vectors.old in
-        vectorsIn 64 vectors.new ≡ set v d (product width64 (vectorAt 64 sheet.now k) (place v d)) }
+    requires { (length vectors.old ≡ place_count * 64) × (d < place_count) × (k + 64 ≤ length sheet.now) }
+    ensures { let v = vectors_in 64 vectors.old in
+        vectors_in 64 vectors.new ≡ set v d (product width64 (vector_at 64 sheet.now k) (place v d)) }
 {
     let x = vector_at(sheet, k);
     let y = get(vectors, d);
@@ -70,9 +70,9 @@ fn multiply_by(vectors: &mut [u8], d: usize, sheet: &[u8], k: usize)
 
 // The vector at place `d` is divided by the one at place `s` from the left. Divisions, too, are made of their parts here and not called.
 fn divide_left(vectors: &mut [u8], d: usize, s: usize)
-    requires { (length vectors.old ≡ placeCount * 64) × (d < placeCount) × (s < placeCount) }
-    ensures { let v = vectorsIn 64 vectors.old in
-        vectorsIn 64 vectors.new ≡ set v d (leftDivision width64 (place v s) (place v d)) }
+    requires { (length vectors.old ≡ place_count * 64) × (d < place_count) × (s < place_count) }
+    ensures { let v = vectors_in 64 vectors.old in
+        vectors_in 64 vectors.new ≡ set v d (left_division width64 (place v s) (place v d)) }
 {
     let a = get(vectors, s);
     let b = get(vectors, d);
@@ -82,9 +82,9 @@ fn divide_left(vectors: &mut [u8], d: usize, s: usize)
 
 // The vector at place `d` is divided by the one at place `s` from the right.
 fn divide_right(vectors: &mut [u8], d: usize, s: usize)
-    requires { (length vectors.old ≡ placeCount * 64) × (d < placeCount) × (s < placeCount) }
-    ensures { let v = vectorsIn 64 vectors.old in
-        vectorsIn 64 vectors.new ≡ set v d (rightDivision width64 (place v d) (place v s)) }
+    requires { (length vectors.old ≡ place_count * 64) × (d < place_count) × (s < place_count) }
+    ensures { let v = vectors_in 64 vectors.old in
+        vectors_in 64 vectors.new ≡ set v d (right_division width64 (place v d) (place v s)) }
 {
     let b = get(vectors, d);
     let a = get(vectors, s);
@@ -94,9 +94,9 @@ fn divide_right(vectors: &mut [u8], d: usize, s: usize)
 
 // The vector at place `d` is divided by the vector at offset `k` of the sheet from the left.
 fn divide_by(vectors: &mut [u8], d: usize, sheet: &[u8], k: usize)
-    requires { (length vectors.old ≡ placeCount * 64) × (d < placeCount) × (k + 64 ≤ length sheet.now) }
-    ensures { let v = vectorsIn 64 vectors.old in
-        vectorsIn 64 vectors.new ≡ set v d (leftDivision width64 (vectorAt 64 sheet.now k) (place v d)) }
+    requires { (length vectors.old ≡ place_count * 64) × (d < place_count) × (k + 64 ≤ length sheet.now) }
+    ensures { let v = vectors_in 64 vectors.old in
+        vectors_in 64 vectors.new ≡ set v d (left_division width64 (vector_at 64 sheet.now k) (place v d)) }
 {
     let a = vector_at(sheet, k);
     let b = get(vectors, d);
@@ -106,9 +106,9 @@ fn divide_by(vectors: &mut [u8], d: usize, sheet: &[u8], k: usize)
 
 // The vectors at places `d` and `s` change over.
 fn swap(vectors: &mut [u8], d: usize, s: usize)
-    requires { (length vectors.old ≡ placeCount * 64) × (d < placeCount) × (s < placeCount) }
-    ensures { let v = vectorsIn 64 vectors.old in
-        vectorsIn 64 vectors.new ≡ set (set v d (place v s)) s (place v d) }
+    requires { (length vectors.old ≡ place_count * 64) × (d < place_count) × (s < place_count) }
+    ensures { let v = vectors_in 64 vectors.old in
+        vectors_in 64 vectors.new ≡ set (set v d (place v s)) s (place v d) }
 {
     let x = get(vectors, d);
     put(vectors, d, get(vectors, s));
@@ -117,17 +117,17 @@ fn swap(vectors: &mut [u8], d: usize, s: usize)
 
 // The words of the vector at place `d` in reverse order.
 fn flip(vectors: &mut [u8], d: usize)
-    requires { (length vectors.old ≡ placeCount * 64) × (d < placeCount) }
-    ensures { let v = vectorsIn 64 vectors.old in
-        vectorsIn 64 vectors.new ≡ set v d (reversed (place v d)) }
+    requires { (length vectors.old ≡ place_count * 64) × (d < place_count) }
+    ensures { let v = vectors_in 64 vectors.old in
+        vectors_in 64 vectors.new ≡ set v d (reversed (place v d)) }
 {
     put(vectors, d, product64::reversed(get(vectors, d)));
 }
 
 // The vectors after a command.
 pub fn apply(sheet: &[u8], c: Command, vectors: &mut [u8])
-    requires { (length vectors.old ≡ placeCount * 64) × SoundCommand 64 (length sheet.now) c }
-    ensures { vectorsIn 64 vectors.new ≡ effect 64 sheet.now c (vectorsIn 64 vectors.old) }
+    requires { (length vectors.old ≡ place_count * 64) × SoundCommand 64 (length sheet.now) c }
+    ensures { vectors_in 64 vectors.new ≡ effect 64 sheet.now c (vectors_in 64 vectors.old) }
 {
     match c {
         Command::Lmul(p) => multiply_places(vectors, p.d, p.s, p.d),

@@ -1,7 +1,7 @@
 // The code that writes one command of a load sheet.
 ghost use Rattle.std.specs.Prelude.{◌≡◌, [], ◌∷◌, ◌+◌, ◌<◌, ◌≤◌, length};
 ghost use Rattle.std.proofs.lemmas.List.Edits.{sets};
-ghost use Rattle.sheet.specs.Read.{placeCount};
+ghost use Rattle.sheet.specs.Read.{place_count};
 ghost use Rattle.sheet.specs.Sound.{SoundPlaces, SoundCommand};
 ghost use Rattle.inverse.specs.Encoding.{immediate, encoded};
 
@@ -9,7 +9,7 @@ use sheet::{Command, Places};
 
 // An opcode and a place, from `at` on.
 fn put_place(out: &mut [u8], at: usize, opcode: u8, d: usize)
-    requires { (d < placeCount) × (at + 2 ≤ length out.old) }
+    requires { (d < place_count) × (at + 2 ≤ length out.old) }
     ensures { out.new ≡ sets out.old at (opcode ∷ d ∷ []) }
 {
     let i = at + 1;
@@ -19,7 +19,7 @@ fn put_place(out: &mut [u8], at: usize, opcode: u8, d: usize)
 
 // An opcode and both places, from `at` on.
 fn put_places(out: &mut [u8], at: usize, opcode: u8, p: Places)
-    requires { SoundPlaces placeCount p × (at + 3 ≤ length out.old) }
+    requires { SoundPlaces place_count p × (at + 3 ≤ length out.old) }
     ensures { out.new ≡ sets out.old at (opcode ∷ p.d ∷ p.s ∷ []) }
 {
     put_place(out, at, opcode, p.d);
@@ -38,7 +38,7 @@ fn immediate_at(width: u32, sheet: &[u8], k: usize) -> &[u8]
 
 // An opcode, a place and the bytes of a vector, from `at` on.
 fn put_immediate(out: &mut [u8], at: usize, opcode: u8, d: usize, vector: &[u8])
-    requires { (d < placeCount) × (at + 2 + length vector.now ≤ length out.old) }
+    requires { (d < place_count) × (at + 2 + length vector.now ≤ length out.old) }
     ensures { out.new ≡ sets out.old at (opcode ∷ d ∷ vector.now) }
 {
     put_place(out, at, opcode, d);

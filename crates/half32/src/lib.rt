@@ -1,9 +1,9 @@
 // The halves of EDON-R's product of vectors of eight words of 32 bits, and the left half of the barred product, as values.
 ghost use Rattle.std.specs.Prelude.{◌≡◌, ◌<◌, slice_index};
 ghost use Rattle.word.specs.Word.{rotl};
-ghost use Rattle.quasigroup.specs.Tables.{leftSums, rightSums, width32};
+ghost use Rattle.quasigroup.specs.Tables.{left_sums, right_sums, width32};
 ghost use Rattle.quasigroup.specs.Product.{pick, sum, xor, sums, rotations, combinations, left_half, right_half};
-ghost use Rattle.quasigroup.specs.Barred.{barredLeftSums, barredLeftHalf};
+ghost use Rattle.quasigroup.specs.Barred.{barred_left_sums, barred_left_half};
 
 // `k` and the five words of `v` with the numbers in `p`, summed; the whole sum is then rotated by `r`.
 fn rotated_sum(v: [u32; 8], k: u32, p: [usize; 5], r: u32) -> u32
@@ -48,7 +48,7 @@ fn words(v: [u32; 8]) -> [u32; 8]
 }
 
 fn left_sums(v: [u32; 8]) -> [u32; 8]
-    ensures { result ≡ rotations 32 width32.leftAmounts (sums 32 0xaaaa_aaaa leftSums v) }
+    ensures { result ≡ rotations 32 width32.left_amounts (sums 32 0xaaaa_aaaa left_sums v) }
 {
     let p = tables::LEFT_SUMS;
     let r = tables::AMOUNTS[0];
@@ -66,7 +66,7 @@ fn left_sums(v: [u32; 8]) -> [u32; 8]
 
 // The sums over X with the words of `v` taken from the other end: the table has 7 - i for i.
 fn barred_left_sums(v: [u32; 8]) -> [u32; 8]
-    ensures { result ≡ rotations 32 width32.leftAmounts (sums 32 0xaaaa_aaaa barredLeftSums v) }
+    ensures { result ≡ rotations 32 width32.left_amounts (sums 32 0xaaaa_aaaa barred_left_sums v) }
 {
     let b = tables::BARRED_LEFT_SUMS;
     let r = tables::AMOUNTS[0];
@@ -83,7 +83,7 @@ fn barred_left_sums(v: [u32; 8]) -> [u32; 8]
 }
 
 fn left_combinations(t: [u32; 8]) -> [u32; 8]
-    ensures { result ≡ combinations leftSums t }
+    ensures { result ≡ combinations left_sums t }
 {
     let p = tables::LEFT_XORS;
     [
@@ -107,13 +107,13 @@ pub fn left_half(x: [u32; 8]) -> [u32; 8]
 
 // The left half of the barred product. The block step has just loaded `x` word by word, so that `words` would gain nothing.
 pub fn barred_left_half(x: [u32; 8]) -> [u32; 8]
-    ensures { result ≡ barredLeftHalf width32 x }
+    ensures { result ≡ barred_left_half width32 x }
 {
     left_combinations(barred_left_sums(x))
 }
 
 fn right_sums(v: [u32; 8]) -> [u32; 8]
-    ensures { result ≡ rotations 32 width32.rightAmounts (sums 32 0x5555_5555 rightSums v) }
+    ensures { result ≡ rotations 32 width32.right_amounts (sums 32 0x5555_5555 right_sums v) }
 {
     let q = tables::RIGHT_SUMS;
     let r = tables::AMOUNTS[1];
@@ -130,7 +130,7 @@ fn right_sums(v: [u32; 8]) -> [u32; 8]
 }
 
 fn right_combinations(t: [u32; 8]) -> [u32; 8]
-    ensures { result ≡ combinations rightSums t }
+    ensures { result ≡ combinations right_sums t }
 {
     let q = tables::RIGHT_XORS;
     [

@@ -1,9 +1,9 @@
 // The halves of EDON-R's product of vectors of eight words of 64 bits, and the left half of the barred product, as values.
 ghost use Rattle.std.specs.Prelude.{◌≡◌, ◌<◌, slice_index};
 ghost use Rattle.word.specs.Word.{rotl};
-ghost use Rattle.quasigroup.specs.Tables.{leftSums, rightSums, width64};
+ghost use Rattle.quasigroup.specs.Tables.{left_sums, right_sums, width64};
 ghost use Rattle.quasigroup.specs.Product.{pick, sum, xor, sums, rotations, combinations, left_half, right_half};
-ghost use Rattle.quasigroup.specs.Barred.{barredLeftSums, barredLeftHalf};
+ghost use Rattle.quasigroup.specs.Barred.{barred_left_sums, barred_left_half};
 
 // `k` and the five words of `v` with the numbers in `p`, summed; the whole sum is then rotated by `r`.
 fn rotated_sum(v: [u64; 8], k: u64, p: [usize; 5], r: u32) -> u64
@@ -48,7 +48,7 @@ fn words(v: [u64; 8]) -> [u64; 8]
 }
 
 fn left_sums(v: [u64; 8]) -> [u64; 8]
-    ensures { result ≡ rotations 64 width64.leftAmounts (sums 64 0xaaaa_aaaa_aaaa_aaaa leftSums v) }
+    ensures { result ≡ rotations 64 width64.left_amounts (sums 64 0xaaaa_aaaa_aaaa_aaaa left_sums v) }
 {
     let p = tables::LEFT_SUMS;
     let r = tables::AMOUNTS[2];
@@ -66,7 +66,7 @@ fn left_sums(v: [u64; 8]) -> [u64; 8]
 
 // The sums over X with the words of `v` taken from the other end: the table has 7 - i for i.
 fn barred_left_sums(v: [u64; 8]) -> [u64; 8]
-    ensures { result ≡ rotations 64 width64.leftAmounts (sums 64 0xaaaa_aaaa_aaaa_aaaa barredLeftSums v) }
+    ensures { result ≡ rotations 64 width64.left_amounts (sums 64 0xaaaa_aaaa_aaaa_aaaa barred_left_sums v) }
 {
     let b = tables::BARRED_LEFT_SUMS;
     let r = tables::AMOUNTS[2];
@@ -83,7 +83,7 @@ fn barred_left_sums(v: [u64; 8]) -> [u64; 8]
 }
 
 fn left_combinations(t: [u64; 8]) -> [u64; 8]
-    ensures { result ≡ combinations leftSums t }
+    ensures { result ≡ combinations left_sums t }
 {
     let p = tables::LEFT_XORS;
     [
@@ -107,13 +107,13 @@ pub fn left_half(x: [u64; 8]) -> [u64; 8]
 
 // The left half of the barred product. The block step has just loaded `x` word by word, so that `words` would gain nothing.
 pub fn barred_left_half(x: [u64; 8]) -> [u64; 8]
-    ensures { result ≡ barredLeftHalf width64 x }
+    ensures { result ≡ barred_left_half width64 x }
 {
     left_combinations(barred_left_sums(x))
 }
 
 fn right_sums(v: [u64; 8]) -> [u64; 8]
-    ensures { result ≡ rotations 64 width64.rightAmounts (sums 64 0x5555_5555_5555_5555 rightSums v) }
+    ensures { result ≡ rotations 64 width64.right_amounts (sums 64 0x5555_5555_5555_5555 right_sums v) }
 {
     let q = tables::RIGHT_SUMS;
     let r = tables::AMOUNTS[3];
@@ -130,7 +130,7 @@ fn right_sums(v: [u64; 8]) -> [u64; 8]
 }
 
 fn right_combinations(t: [u64; 8]) -> [u64; 8]
-    ensures { result ≡ combinations rightSums t }
+    ensures { result ≡ combinations right_sums t }
 {
     let q = tables::RIGHT_XORS;
     [

@@ -10,45 +10,45 @@ use Rattle.memory.proofs.Lists.{word, spread}
 use Rattle.memory.proofs.Eight.{eight}
 use Rattle.word.specs.Word.{plus, minus, times, inverse, rotl}
 use Rattle.quasigroup.specs.Product.{pick, both, first, sum, xor, rotations}
-use Rattle.quasigroup.specs.Division.{leftUnxors, unrotatedSums}
-use Rattle.tables.specs.Places.{unxorPlaces}
-use Rattle.halves.specs.Balance.{balance, twoFifths}
-use Rattle.halves.proofs.Balance.{balance-nil, balance-plus, balance-minus, sum-cons, sum_one}
+use Rattle.quasigroup.specs.Division.{left_unxors, unrotated_sums}
+use Rattle.tables.specs.Places.{unxor_places}
+use Rattle.halves.specs.Balance.{balance, two_fifths}
+use Rattle.halves.proofs.Balance.{balance_nil, balance_plus, balance_minus, sum_cons, sum_one}
 
-five-wrapped : (w a b c d e k : ℕ) → (a + (b + (c + (d + (e + k) % 2 ^ w) % 2 ^ w) % 2 ^ w) % 2 ^ w) % 2 ^ w ≡ sum w k (a ∷ b ∷ c ∷ d ∷ e ∷ [])
+five_wrapped : (w a b c d e k : ℕ) → (a + (b + (c + (d + (e + k) % 2 ^ w) % 2 ^ w) % 2 ^ w) % 2 ^ w) % 2 ^ w ≡ sum w k (a ∷ b ∷ c ∷ d ∷ e ∷ [])
 unfolding sum
-five-wrapped w a b c d e k =
+five_wrapped w a b c d e k =
     let e : a + (b + (c + (d + (e + k)))) ≡ a + (b + (c + (d + (e + 0)))) + k = omega arith in
     simp add-mod-mod (ap (λ n. n % 2 ^ w) e)
 
 -- five sums that wrap: the sum of five words and a constant
-pub five-summed : (w k : ℕ) (p v : List ℕ) → length p ≡ 5
+pub five_summed : (w k : ℕ) (p v : List ℕ) → length p ≡ 5
     → (word v p 0 + (word v p 1 + (word v p 2 + (word v p 3 + (word v p 4 + k) % 2 ^ w) % 2 ^ w) % 2 ^ w) % 2 ^ w) % 2 ^ w ≡ sum w k (pick p v)
-five-summed w k p v l =
-    five-wrapped w (word v p 0) (word v p 1) (word v p 2) (word v p 3) (word v p 4) k ∙ ap (λ (q : List ℕ). sum w k (pick q v)) (spread 5 p l)
+five_summed w k p v l =
+    five_wrapped w (word v p 0) (word v p 1) (word v p 2) (word v p 3) (word v p 4) k ∙ ap (λ (q : List ℕ). sum w k (pick q v)) (spread 5 p l)
 
 -- rotated sum i, by row i of the tables
-abbrev rotatedSum : ℕ → ℕ → List ℕ → List (List ℕ) → List ℕ → ℕ → ℕ
-rotatedSum w k rs P v i = rotl w (get_or rs i 0) (sum w k (pick (get_or P i []) v))
+abbrev rotated_sum : ℕ → ℕ → List ℕ → List (List ℕ) → List ℕ → ℕ → ℕ
+rotated_sum w k rs P v i = rotl w (get_or rs i 0) (sum w k (pick (get_or P i []) v))
 
 -- Eight rotated sums. Each is held against its own row, so that a wrong word number or constant is seen by itself.
-pub eight-sums : (w c : ℕ) (rs : List ℕ) (P : List (List ℕ)) (v : List ℕ) {t0 t1 t2 t3 t4 t5 t6 t7 : ℕ}
-    → t0 ≡ rotatedSum w c rs P v 0 → t1 ≡ rotatedSum w 0 rs P v 1 → t2 ≡ rotatedSum w 0 rs P v 2 → t3 ≡ rotatedSum w 0 rs P v 3
-    → t4 ≡ rotatedSum w 0 rs P v 4 → t5 ≡ rotatedSum w 0 rs P v 5 → t6 ≡ rotatedSum w 0 rs P v 6 → t7 ≡ rotatedSum w 0 rs P v 7
+pub eight_sums : (w c : ℕ) (rs : List ℕ) (P : List (List ℕ)) (v : List ℕ) {t0 t1 t2 t3 t4 t5 t6 t7 : ℕ}
+    → t0 ≡ rotated_sum w c rs P v 0 → t1 ≡ rotated_sum w 0 rs P v 1 → t2 ≡ rotated_sum w 0 rs P v 2 → t3 ≡ rotated_sum w 0 rs P v 3
+    → t4 ≡ rotated_sum w 0 rs P v 4 → t5 ≡ rotated_sum w 0 rs P v 5 → t6 ≡ rotated_sum w 0 rs P v 6 → t7 ≡ rotated_sum w 0 rs P v 7
     → ◌≡◌ {A = List ℕ}
     (t0 ∷ t1 ∷ t2 ∷ t3 ∷ t4 ∷ t5 ∷ t6 ∷ t7 ∷ [])
-    (rotatedSum w c rs P v 0 ∷ map (rotatedSum w 0 rs P v) (1 ∷ 2 ∷ 3 ∷ 4 ∷ 5 ∷ 6 ∷ 7 ∷ []))
-eight-sums w c rs P v e0 e1 e2 e3 e4 e5 e6 e7 = eight e0 e1 e2 e3 e4 e5 e6 e7
+    (rotated_sum w c rs P v 0 ∷ map (rotated_sum w 0 rs P v) (1 ∷ 2 ∷ 3 ∷ 4 ∷ 5 ∷ 6 ∷ 7 ∷ []))
+eight_sums w c rs P v e0 e1 e2 e3 e4 e5 e6 e7 = eight e0 e1 e2 e3 e4 e5 e6 e7
 
-pub three-combined : (p v : List ℕ) → length p ≡ 3 → bit_xor (word v p 0) (bit_xor (word v p 1) (word v p 2)) ≡ xor (pick p v)
+pub three_combined : (p v : List ℕ) → length p ≡ 3 → bit_xor (word v p 0) (bit_xor (word v p 1) (word v p 2)) ≡ xor (pick p v)
 unfolding xor
-three-combined p v l =
+three_combined p v l =
     sym (ap (λ n. bit_xor (word v p 0) (bit_xor (word v p 1) n)) (xor_zero_r (word v p 2))) ∙ ap (λ (q : List ℕ). xor (pick q v)) (spread 3 p l)
 
-pub five-combined : (p v : List ℕ) → length p ≡ 5
+pub five_combined : (p v : List ℕ) → length p ≡ 5
     → bit_xor (word v p 0) (bit_xor (word v p 1) (bit_xor (word v p 2) (bit_xor (word v p 3) (word v p 4)))) ≡ xor (pick p v)
 unfolding xor
-five-combined p v l =
+five_combined p v l =
     sym (ap (λ n. bit_xor (word v p 0) (bit_xor (word v p 1) (bit_xor (word v p 2) (bit_xor (word v p 3) n)))) (xor_zero_r (word v p 4)))
     ∙ ap (λ (q : List ℕ). xor (pick q v)) (spread 5 p l)
 
@@ -58,7 +58,7 @@ unfolding xor
 cancelled a b c d = ap (λ n. bit_xor a (bit_xor b (bit_xor c n))) (ap (bit_xor d) (xor_zero_r d) ∙ xor_self d)
 
 -- so the places that fill up the code's table change nothing
-pub unfilled : (w c : ℕ) (rs z : List ℕ) → unrotatedSums w c rs unxorPlaces z ≡ unrotatedSums w c rs leftUnxors z
+pub unfilled : (w c : ℕ) (rs z : List ℕ) → unrotated_sums w c rs unxor_places z ≡ unrotated_sums w c rs left_unxors z
 unfilled w c rs z =
     ap (λ (l : List ℕ). both (minus w) (rotations w (map (λ r. w - r) rs) l) (first c))
     (eight (cancelled _ _ _ _) refl refl refl (cancelled _ _ _ _) (cancelled _ _ _ _) (cancelled _ _ _ _) refl)
@@ -71,23 +71,23 @@ pub balanced : (w u : ℕ) (p n s : List ℕ) → u < 2 ^ w → length p ≡ 2 �
     (word s p 0)
     ≡ balance w u (pick p s) (pick n s)
 balanced w u p n s h k l =
-    sym (simp (balance-plus, balance-minus, balance-nil w u h))
+    sym (simp (balance_plus, balance_minus, balance_nil w u h))
     ∙ ap₂ (λ (q r : List ℕ). balance w u (pick q s) (pick r s)) (spread 2 p k) (spread 5 n l)
 
 -- none added and three taken away
-pub less-three : (w u : ℕ) (n s : List ℕ) → u < 2 ^ w → length n ≡ 3
+pub less_three : (w u : ℕ) (n s : List ℕ) → u < 2 ^ w → length n ≡ 3
     → minus w (minus w (minus w u (word s n 2)) (word s n 1)) (word s n 0) ≡ balance w u [] (pick n s)
-less-three w u n s h l = sym (simp (balance-minus, balance-nil w u h)) ∙ ap (λ (r : List ℕ). balance w u [] (pick r s)) (spread 3 n l)
+less_three w u n s h l = sym (simp (balance_minus, balance_nil w u h)) ∙ ap (λ (r : List ℕ). balance w u [] (pick r s)) (spread 3 n l)
 
 -- the sum of eight words, as the code nests it
-pub eight-summed : (w : ℕ) (s : List ℕ) → get_or s 7 0 < 2 ^ w → length s ≡ 8
+pub eight_summed : (w : ℕ) (s : List ℕ) → get_or s 7 0 < 2 ^ w → length s ≡ 8
     → plus
     w
     (get_or s 0 0)
     (plus w (get_or s 1 0) (plus w (get_or s 2 0) (plus w (get_or s 3 0) (plus w (get_or s 4 0) (plus w (get_or s 5 0) (plus w (get_or s 6 0) (get_or s 7 0)))))))
     ≡ sum w 0 s
-eight-summed w s h l = sym (simp (sum_one w (get_or s 7 0) h, sum-cons)) ∙ ap (sum w 0) (spread 8 s l)
+eight_summed w s h l = sym (simp (sum_one w (get_or s 7 0) h, sum_cons)) ∙ ap (sum w 0) (spread 8 s l)
 
-pub two-fifths-is : (w : ℕ) (s : List ℕ) {i t z x : ℕ} → i ≡ inverse w 5 → t ≡ sum w 0 s → z ≡ times w i t → x ≡ plus w z z → x ≡ twoFifths w s
-unfolding twoFifths
-two-fifths-is w s a b c d = cc
+pub two_fifths_is : (w : ℕ) (s : List ℕ) {i t z x : ℕ} → i ≡ inverse w 5 → t ≡ sum w 0 s → z ≡ times w i t → x ≡ plus w z z → x ≡ two_fifths w s
+unfolding two_fifths
+two_fifths_is w s a b c d = cc

@@ -8,5 +8,5 @@ unfoldable pub balance : ℕ → ℕ → List ℕ → List ℕ → ℕ
 balance w u p n = (u + fold ◌+◌ p + (2 ^ w - fold ◌+◌ n % 2 ^ w)) % 2 ^ w
 
 -- twice the inverse of 5 times the sum of all words
-unfoldable pub twoFifths : ℕ → List ℕ → ℕ
-twoFifths w s = plus w (times w (inverse w 5) (sum w 0 s)) (times w (inverse w 5) (sum w 0 s))
+unfoldable pub two_fifths : ℕ → List ℕ → ℕ
+two_fifths w s = plus w (times w (inverse w 5) (sum w 0 s)) (times w (inverse w 5) (sum w 0 s))

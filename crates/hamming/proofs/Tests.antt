@@ -10,28 +10,28 @@ use Rattle.answer.specs.declared.Answer.TheVariants.{Done, Refused}
 use Rattle.answer.specs.declared.Refusal.TheVariants.{Pairs, Output}
 use Rattle.answer.proofs.Tests.{both_true}
 use Rattle.memory.specs.Lists.{total}
-use Rattle.hamming.specs.Counts.{pairCount, flippedCounts, wholePairs, flippedAnswer}
+use Rattle.hamming.specs.Counts.{pair_count, flipped_counts, whole_pairs, flipped_answer}
 
-pub whole : (m : ℕ) → wholePairs m ≡ true → (m % 64 ≡ 0) × (m ≤ 65536)
+pub whole : (m : ℕ) → whole_pairs m ≡ true → (m % 64 ≡ 0) × (m ≤ 65536)
 whole m e =
     let t = both_true (eqb (m % 64) 0) (leb m 65536) e in
     (eqb-true (m % 64) 0 t.0, leb-true m 65536 t.1)
 
-pub is_whole : (m : ℕ) → m % 64 ≡ 0 → m ≤ 65536 → wholePairs m ≡ true
+pub is_whole : (m : ℕ) → m % 64 ≡ 0 → m ≤ 65536 → whole_pairs m ≡ true
 is_whole m h g = rw (eq-eqb (m % 64) 0 h, le-leb m 65536 g) refl
 
-pub is-partial : (m : ℕ) → (m % 64 ≡ 0 → ⊥) → wholePairs m ≡ false
-is-partial m h = rw (ne_eqb (m % 64) 0 h) refl
+pub is_partial : (m : ℕ) → (m % 64 ≡ 0 → ⊥) → whole_pairs m ≡ false
+is_partial m h = rw (ne_eqb (m % 64) 0 h) refl
 
-pub is-long : (m : ℕ) → 65536 < m → wholePairs m ≡ false
-is-long m h = rw (lt-leb m 65536 h) (and-false (eqb (m % 64) 0))
+pub is_long : (m : ℕ) → 65536 < m → whole_pairs m ≡ false
+is_long m h = rw (lt-leb m 65536 h) (and-false (eqb (m % 64) 0))
 
 module _ (s : List ℕ) (n : ℕ) where
-  pub not-whole : wholePairs (length s) ≡ false → flippedAnswer s n ≡ Refused Pairs 0
-  not-whole e = rw e refl
+  pub not_whole : whole_pairs (length s) ≡ false → flipped_answer s n ≡ Refused Pairs 0
+  not_whole e = rw e refl
 
-  pub no_room : wholePairs (length s) ≡ true → leb (pairCount (length s)) n ≡ false → flippedAnswer s n ≡ Refused Output 0
+  pub no_room : whole_pairs (length s) ≡ true → leb (pair_count (length s)) n ≡ false → flipped_answer s n ≡ Refused Output 0
   no_room e h = rw (e, h) refl
 
-  pub accepted : wholePairs (length s) ≡ true → leb (pairCount (length s)) n ≡ true → flippedAnswer s n ≡ Done (total (flippedCounts s))
+  pub accepted : whole_pairs (length s) ≡ true → leb (pair_count (length s)) n ≡ true → flipped_answer s n ≡ Done (total (flipped_counts s))
   accepted e h = rw (e, h) refl

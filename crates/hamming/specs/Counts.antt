@@ -8,41 +8,41 @@ use Rattle.memory.specs.Lists.{bytes_at, total}
 use Rattle.hamming.specs.Distance.{distance}
 
 -- the digests of record k of s, k from 0 on: 32 bytes each, one behind the other
-abbrev pub firstDigest : List ℕ → ℕ → List ℕ
-firstDigest s k = bytes_at 32 s (64 * k)
+abbrev pub first_digest : List ℕ → ℕ → List ℕ
+first_digest s k = bytes_at 32 s (64 * k)
 
-abbrev pub secondDigest : List ℕ → ℕ → List ℕ
-secondDigest s k = bytes_at 32 s (64 * k + 32)
+abbrev pub second_digest : List ℕ → ℕ → List ℕ
+second_digest s k = bytes_at 32 s (64 * k + 32)
 
 -- the number of bits in which they differ
-abbrev pub flippedBits : List ℕ → ℕ → ℕ
-flippedBits s k = distance (firstDigest s k) (secondDigest s k)
+abbrev pub flipped_bits : List ℕ → ℕ → ℕ
+flipped_bits s k = distance (first_digest s k) (second_digest s k)
 
 -- those of n records from record k on
-abbrev pub countsFrom : List ℕ → ℕ → ℕ → List ℕ
-countsFrom s k zero = []
-countsFrom s k (suc n) = flippedBits s k ∷ countsFrom s (suc k) n
+abbrev pub counts_from : List ℕ → ℕ → ℕ → List ℕ
+counts_from s k zero = []
+counts_from s k (suc n) = flipped_bits s k ∷ counts_from s (suc k) n
 
 -- the number of records in m bytes
-abbrev pub pairCount : ℕ → ℕ
-pairCount m = m / 64
+abbrev pub pair_count : ℕ → ℕ
+pair_count m = m / 64
 
 -- one count a record
-abbrev pub flippedCounts : List ℕ → List ℕ
-flippedCounts s = countsFrom s 0 (pairCount (length s))
+abbrev pub flipped_counts : List ℕ → List ℕ
+flipped_counts s = counts_from s 0 (pair_count (length s))
 
 -- whether records may have m bytes: a multiple of 64, and not over 65,536
-abbrev pub wholePairs : ℕ → Bool
-wholePairs m = eqb (m % 64) 0 && leb m 65536
+abbrev pub whole_pairs : ℕ → Bool
+whole_pairs m = eqb (m % 64) 0 && leb m 65536
 
 -- What the call answers for the records s and a list of n counts: 19, s has not such a length; 4, the list has fewer counts than s has records; or the sum of
 -- the records' own differences
-abbrev pub flippedAnswer : List ℕ → ℕ → Answer
-flippedAnswer s n =
-    unless (wholePairs (length s)) Pairs
-    (unless (leb (pairCount (length s)) n) Output
-    (Done (total (flippedCounts s))))
+abbrev pub flipped_answer : List ℕ → ℕ → Answer
+flipped_answer s n =
+    unless (whole_pairs (length s)) Pairs
+    (unless (leb (pair_count (length s)) n) Output
+    (Done (total (flipped_counts s))))
 
 -- the list l after the call: a count for each record, and the counts behind as they were; or, after a refusal, all as it was
-abbrev pub countsAfter : List ℕ → List ℕ → List ℕ
-countsAfter s l = outcome (flippedAnswer s (length l)) (flippedCounts s ++ drop (pairCount (length s)) l) l
+abbrev pub counts_after : List ℕ → List ℕ → List ℕ
+counts_after s l = outcome (flipped_answer s (length l)) (flipped_counts s ++ drop (pair_count (length s)) l) l

@@ -2,7 +2,7 @@
 -- proofs/Fitting.antt shows it.
 use Rattle.std.specs.Prelude.{List, ℕ, ◌^◌}
 use Rattle.answer.specs.Injective.{Fits}
-use Rattle.hamming.specs.Counts.{flippedAnswer}
+use Rattle.hamming.specs.Counts.{flipped_answer}
 
 abbrev pub CountingFits : Type 0
-CountingFits = (s : List ℕ) (n : ℕ) → Fits (2 ^ 32) (flippedAnswer s n)
+CountingFits = (s : List ℕ) (n : ℕ) → Fits (2 ^ 32) (flipped_answer s n)

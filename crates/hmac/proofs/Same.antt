@@ -8,23 +8,23 @@ use lib.Dec.{eqb}
 use Rattle.answer.proofs.Tests.{both_true, decide}
 use Rattle.hmac.specs.Calls.{same}
 
-pub same-equal : (s t : List ℕ) → same s t ≡ true → s ≡ t
+pub same_equal : (s t : List ℕ) → same s t ≡ true → s ≡ t
 unfolding same
-same-equal [] [] e = refl
-same-equal [] (b ∷ t) e = cc
-same-equal (a ∷ s) [] e = cc
-same-equal (a ∷ s) (b ∷ t) e =
+same_equal [] [] e = refl
+same_equal [] (b ∷ t) e = cc
+same_equal (a ∷ s) [] e = cc
+same_equal (a ∷ s) (b ∷ t) e =
     let f = both_true (eqb a b) (same s t) e in
-    ap₂ {C = List ℕ} (λ x y. x ∷ y) (eqb-true a b f.0) (same-equal s t f.1)
+    ap₂ {C = List ℕ} (λ x y. x ∷ y) (eqb-true a b f.0) (same_equal s t f.1)
 
 same_self : (s : List ℕ) → same s s ≡ true
 unfolding same
 same_self [] = refl
 same_self (a ∷ s) = rw (eq-eqb a a refl, same_self s)
 
-pub equal-same : (s t : List ℕ) → s ≡ t → same s t ≡ true
-equal-same s t e = ap (same s) (sym e) ∙ same_self s
+pub equal_same : (s t : List ℕ) → s ≡ t → same s t ≡ true
+equal_same s t e = ap (same s) (sym e) ∙ same_self s
 
 -- where they are not
-pub unequal-same : (s t : List ℕ) → (s ≡ t → ⊥) → same s t ≡ false
-unequal-same s t n = decide (same s t) (λ e. absurd (n (same-equal s t e))) (λ e. e)
+pub unequal_same : (s t : List ℕ) → (s ≡ t → ⊥) → same s t ≡ false
+unequal_same s t n = decide (same s t) (λ e. absurd (n (same_equal s t e))) (λ e. e)

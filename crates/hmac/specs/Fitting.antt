@@ -2,8 +2,8 @@
 -- proofs/Fitting.antt shows it.
 use Rattle.std.specs.Prelude.{List, ℕ, ◌^◌}
 use Rattle.answer.specs.Injective.{Fits}
-use Rattle.hmac.specs.Calls.{hmacAnswer, verifyAnswer}
+use Rattle.hmac.specs.Calls.{hmac_answer, verify_answer}
 
 pub record HmacFits : Type 0 where
-  pub making : (n key text room : ℕ) → Fits (2 ^ 32) (hmacAnswer n key text room)
-  pub verifying : (n : ℕ) (key text tag : List ℕ) → Fits (2 ^ 32) (verifyAnswer n key text tag)
+  pub making : (n key text room : ℕ) → Fits (2 ^ 32) (hmac_answer n key text room)
+  pub verifying : (n : ℕ) (key text tag : List ℕ) → Fits (2 ^ 32) (verify_answer n key text tag)

@@ -3,36 +3,36 @@ use Rattle.std.specs.Prelude.{◌≡◌, true, false, List, ℕ, ◌-◌, ◌/�
 use Rattle.answer.specs.declared.Answer.{Answer}
 use Rattle.answer.specs.declared.Answer.TheVariants.{Done, Refused}
 use Rattle.answer.specs.declared.Refusal.TheVariants.{Size, Length, Output}
-use Rattle.answer.specs.Refuse.{isDone}
+use Rattle.answer.specs.Refuse.{is_done}
 use Rattle.digest.specs.Refusals.{limit}
-use Rattle.digest.specs.Kind.{knownSize, kindFor, Known}
-use Rattle.hmac.specs.Hmac.{blockFor}
-use Rattle.hmac.specs.Calls.{hmacAnswer, hmacOut, verifyAnswer}
+use Rattle.digest.specs.Kind.{known_size, kind_for, Known}
+use Rattle.hmac.specs.Hmac.{block_for}
+use Rattle.hmac.specs.Calls.{hmac_answer, hmac_out, verify_answer}
 
 -- a key and a message of so many bytes are not too long for size n
 pub record Fitting (n key text : ℕ) : Type 0 where
-  pub ofKey : key ≤ limit
-  pub ofMessage : text ≤ limit - blockFor n
+  pub of_key : key ≤ limit
+  pub of_message : text ≤ limit - block_for n
 
 -- a is refused with 1 if the size is none of the four; else with 3 if the key is over 2^61 - 1 bytes, and if the message is over that less one block
 pub record BothRefuse (n key text : ℕ) (a : Answer) : Type 0 where
-  pub size : knownSize (kindFor n) n ≡ false → a ≡ Refused Size 0
-  pub longKey : Known n → limit < key → a ≡ Refused Length 0
-  pub longMessage : Known n → limit - blockFor n < text → a ≡ Refused Length 0
+  pub size : known_size (kind_for n) n ≡ false → a ≡ Refused Size 0
+  pub long_key : Known n → limit < key → a ≡ Refused Length 0
+  pub long_message : Known n → limit - block_for n < text → a ≡ Refused Length 0
 
 -- making refuses so, then with 4 if the output is shorter than n/8, and else not; a refusal leaves the output as it was
 pub record MakingRefuses (n : ℕ) (key text out : List ℕ) : Type 0 where
-  pub both : BothRefuse n (length key) (length text) (hmacAnswer n (length key) (length text) (length out))
+  pub both : BothRefuse n (length key) (length text) (hmac_answer n (length key) (length text) (length out))
   pub short : Known n → Fitting n (length key) (length text) → length out < n / 8
-      → hmacAnswer n (length key) (length text) (length out) ≡ Refused Output 0
+      → hmac_answer n (length key) (length text) (length out) ≡ Refused Output 0
   pub others : Known n → Fitting n (length key) (length text) → n / 8 ≤ length out
-      → hmacAnswer n (length key) (length text) (length out) ≡ Done (n / 8)
-  pub unchanged : isDone (hmacAnswer n (length key) (length text) (length out)) ≡ false → hmacOut n key text out ≡ out
+      → hmac_answer n (length key) (length text) (length out) ≡ Done (n / 8)
+  pub unchanged : is_done (hmac_answer n (length key) (length text) (length out)) ≡ false → hmac_out n key text out ≡ out
 
 -- comparing refuses so, and else not
 pub record VerifyingRefuses (n : ℕ) (key text tag : List ℕ) : Type 0 where
-  pub both : BothRefuse n (length key) (length text) (verifyAnswer n key text tag)
-  pub others : Known n → Fitting n (length key) (length text) → isDone (verifyAnswer n key text tag) ≡ true
+  pub both : BothRefuse n (length key) (length text) (verify_answer n key text tag)
+  pub others : Known n → Fitting n (length key) (length text) → is_done (verify_answer n key text tag) ≡ true
 
 pub record HmacRefuses : Type 0 where
   pub making : (n : ℕ) (key text out : List ℕ) → MakingRefuses n key text out

@@ -1,15 +1,15 @@
 // The tests of the calls that make and compare tags, by numbers alone, and the block length of a size.
 ghost use Rattle.std.specs.Prelude.{◌≡◌};
 ghost use Rattle.answer.specs.declared.Answer.TheVariants.{Done};
-ghost use Rattle.hmac.specs.Hmac.{blockFor};
-ghost use Rattle.hmac.specs.Calls.{fitting, keying, hmacAnswer};
+ghost use Rattle.hmac.specs.Hmac.{block_for};
+ghost use Rattle.hmac.specs.Calls.{fitting, keying, hmac_answer};
 
 use answer::{Answer, Refusal};
 use refusal::LIMIT;
 
 // The bytes of a block: those of the wide kind for its sizes, and else those of the narrow kind.
 pub fn block_length(size: u32) -> usize
-    ensures { result ≡ blockFor size }
+    ensures { result ≡ block_for size }
 {
     if refusal::is_size(384, 512, size as u64) {
         return 128;
@@ -30,7 +30,7 @@ fn is_fitting(size: u32, key: usize, message: usize) -> bool
 
 // The three tests are locals, so that the order of the refusals is the order of the three ifs and nothing else.
 pub fn making(size: u32, key: usize, message: usize, room: usize) -> Answer
-    ensures { result ≡ hmacAnswer size key message room }
+    ensures { result ≡ hmac_answer size key message room }
 {
     let known = refusal::is_known(size);
     let fits = is_fitting(size, key, message);

@@ -1,12 +1,12 @@
 // The interpreter of load sheets: one command done, and the loops that do and undo commands, over lent vectors, at a known width and with bytes for every
 // vector.
 ghost use Rattle.std.specs.Prelude.{◌≡◌, true, reverse, ◌*◌, ◌≤◌, length, take};
-ghost use Rattle.quasigroup.specs.Tables.{knownWidth};
-ghost use Rattle.sheet.specs.Read.{placeCount};
-ghost use Rattle.sheet.specs.Sheet.{scanFrom};
+ghost use Rattle.quasigroup.specs.Tables.{known_width};
+ghost use Rattle.sheet.specs.Read.{place_count};
+ghost use Rattle.sheet.specs.Sheet.{scan_from};
 ghost use Rattle.invertible.specs.RoundTrip.{Forward, Backward};
-ghost use Rattle.sheet.specs.Run.{step, steps, vectorsIn};
-ghost use Rattle.sheet.specs.Progress.{startingAt, stateAfter};
+ghost use Rattle.sheet.specs.Run.{step, steps, vectors_in};
+ghost use Rattle.sheet.specs.Progress.{starting_at, state_after};
 
 use sheet::Read;
 
@@ -18,8 +18,8 @@ fn from_u16(x: u16) -> usize
 
 // The vectors after the commands of a sheet, up to its end or its first fault.
 pub fn forward(width: u32, sheet: &[u8], vectors: &mut [u8])
-    requires { (knownWidth width ≡ true) × (length vectors.old ≡ placeCount * width) }
-    ensures { let s = sheet.now in vectorsIn width vectors.new ≡ steps Forward width s (scanFrom (length s) width s 0).offsets (vectorsIn width vectors.old) }
+    requires { (known_width width ≡ true) × (length vectors.old ≡ place_count * width) }
+    ensures { let s = sheet.now in vectors_in width vectors.new ≡ steps Forward width s (scan_from (length s) width s 0).offsets (vectors_in width vectors.old) }
 {
     let mut at = 0;
     loop {
@@ -37,9 +37,9 @@ pub fn forward(width: u32, sheet: &[u8], vectors: &mut [u8])
 
 // The vectors after the command at the offset, where one stands, and the offset behind it; where none does, nothing moves.
 pub fn step_forward(width: u32, sheet: &[u8], offset: usize, vectors: &mut [u8]) -> usize
-    requires { (knownWidth width ≡ true) × (length vectors.old ≡ placeCount * width) }
-    ensures { let p = stateAfter 1 width sheet.now (startingAt offset (vectorsIn width vectors.old)) in
-        (result ≡ p.offset) × (vectorsIn width vectors.new ≡ p.vectors) }
+    requires { (known_width width ≡ true) × (length vectors.old ≡ place_count * width) }
+    ensures { let p = state_after 1 width sheet.now (starting_at offset (vectors_in width vectors.old)) in
+        (result ≡ p.offset) × (vectors_in width vectors.new ≡ p.vectors) }
 {
     match reader::read_command(width, sheet, offset) {
         Read::Got(d) => {
@@ -54,8 +54,8 @@ pub fn step_forward(width: u32, sheet: &[u8], offset: usize, vectors: &mut [u8])
 
 // The vectors after the command at an offset is undone.
 fn undo(width: u32, sheet: &[u8], at: usize, vectors: &mut [u8])
-    requires { (knownWidth width ≡ true) × (length vectors.old ≡ placeCount * width) }
-    ensures { vectorsIn width vectors.new ≡ step Backward width sheet.now at (vectorsIn width vectors.old) }
+    requires { (known_width width ≡ true) × (length vectors.old ≡ place_count * width) }
+    ensures { vectors_in width vectors.new ≡ step Backward width sheet.now at (vectors_in width vectors.old) }
 {
     match reader::read_command(width, sheet, at) {
         Read::Got(d) => {
@@ -70,8 +70,8 @@ fn undo(width: u32, sheet: &[u8], at: usize, vectors: &mut [u8])
 
 // The vectors after the commands at the first `n` offsets are undone, the last one first.
 pub fn backward(width: u32, sheet: &[u8], offsets: &[u16], n: usize, vectors: &mut [u8])
-    requires { (knownWidth width ≡ true) × (length vectors.old ≡ placeCount * width) × (n ≤ length offsets.now) }
-    ensures { let l = reverse (take n offsets.now) in vectorsIn width vectors.new ≡ steps Backward width sheet.now l (vectorsIn width vectors.old) }
+    requires { (known_width width ≡ true) × (length vectors.old ≡ place_count * width) × (n ≤ length offsets.now) }
+    ensures { let l = reverse (take n offsets.now) in vectors_in width vectors.new ≡ steps Backward width sheet.now l (vectors_in width vectors.old) }
 {
     let mut done = 0;
     while done < n {

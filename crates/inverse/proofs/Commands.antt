@@ -10,53 +10,53 @@ use Rattle.sheet.specs.declared.Command.{Command}
 use Rattle.sheet.specs.declared.Read.{Read}
 use Rattle.sheet.specs.declared.Read.TheVariants.{Got, Fault, End}
 use Rattle.sheet.specs.Units.{units}
-use Rattle.sheet.specs.Read.{placeCount, readAt}
+use Rattle.sheet.specs.Read.{place_count, read_at}
 use Rattle.sheet.specs.Sheet.{plan_of}
 use Rattle.sheet.specs.Effect.{effect}
-use Rattle.sheet.specs.Work.{unitsIn, totalUnits}
-use Rattle.sheet.specs.Run.{turned, stepWith, step, steps, runVectors}
-use Rattle.sheet.proofs.Work.{units-none, units-more}
-use Rattle.sheet.proofs.Counting.{reading-tells}
-use Rattle.inverse.specs.Encoding.{commandIn, commandsAt, commandsOf}
-use Rattle.inverse.proofs.Lists.{flat-none, flat-more, flat-reverse}
+use Rattle.sheet.specs.Work.{units_in, total_units}
+use Rattle.sheet.specs.Run.{turned, step_with, step, steps, run_vectors}
+use Rattle.sheet.proofs.Work.{units_none, units_more}
+use Rattle.sheet.proofs.Counting.{reading_tells}
+use Rattle.inverse.specs.Encoding.{command_in, commands_at, commands_of}
+use Rattle.inverse.proofs.Lists.{flat_none, flat_more, flat_reverse}
 
 module _ (w : ℕ) (s : List ℕ) where
-  at_none : commandsAt w s [] ≡ []
-  at_none = flat-none (λ i. commandIn (readAt w s i))
+  at_none : commands_at w s [] ≡ []
+  at_none = flat_none (λ i. command_in (read_at w s i))
 
-  at_more : (i : ℕ) (l : List ℕ) → commandsAt w s (i ∷ l) ≡ commandIn (readAt w s i) ++ commandsAt w s l
-  at_more = flat-more (λ i. commandIn (readAt w s i))
+  at_more : (i : ℕ) (l : List ℕ) → commands_at w s (i ∷ l) ≡ command_in (read_at w s i) ++ commands_at w s l
+  at_more = flat_more (λ i. command_in (read_at w s i))
 
   -- ---- effects
 
   abbrev doing : Direction → Command → List (List ℕ) → List (List ℕ)
   doing g c v = effect w s (turned g c) v
 
-  step-command : (g : Direction) (r : Read) (l : List Command) (v : List (List ℕ)) → stepped (doing g) (commandIn r ++ l) v ≡ stepped (doing g) l (stepWith g w s r v)
-  step-command g (Got d) l v = refl
-  step-command g (Fault r) l v = refl
-  step-command g End l v = refl
+  step_command : (g : Direction) (r : Read) (l : List Command) (v : List (List ℕ)) → stepped (doing g) (command_in r ++ l) v ≡ stepped (doing g) l (step_with g w s r v)
+  step_command g (Got d) l v = refl
+  step_command g (Fault r) l v = refl
+  step_command g End l v = refl
 
-  steps-commands : (g : Direction) (l : List ℕ) (v : List (List ℕ)) → steps g w s l v ≡ stepped (doing g) (commandsAt w s l) v
-  steps-commands g [] v = ap (λ (m : List Command). stepped (doing g) m v) (sym at_none)
-  steps-commands g (i ∷ l) v =
-      steps-commands g l (step g w s i v)
-      ∙ sym (step-command g (readAt w s i) (commandsAt w s l) v)
+  steps_commands : (g : Direction) (l : List ℕ) (v : List (List ℕ)) → steps g w s l v ≡ stepped (doing g) (commands_at w s l) v
+  steps_commands g [] v = ap (λ (m : List Command). stepped (doing g) m v) (sym at_none)
+  steps_commands g (i ∷ l) v =
+      steps_commands g l (step g w s i v)
+      ∙ sym (step_command g (read_at w s i) (commands_at w s l) v)
       ∙ ap (λ (m : List Command). stepped (doing g) m v) (sym (at_more i l))
 
-  one_way : (r : Read) → reverse (commandIn r) ≡ commandIn r
+  one_way : (r : Read) → reverse (command_in r) ≡ command_in r
   one_way (Got d) = refl
   one_way (Fault r) = refl
   one_way End = refl
 
-  pub run-forward : (v : List (List ℕ)) → runVectors Forward w s v ≡ stepped (doing Forward) (commandsOf w s) v
-  run-forward v = steps-commands Forward (plan_of w s).offsets v
+  pub run_forward : (v : List (List ℕ)) → run_vectors Forward w s v ≡ stepped (doing Forward) (commands_of w s) v
+  run_forward v = steps_commands Forward (plan_of w s).offsets v
 
-  pub run-backward : (v : List (List ℕ)) → runVectors Backward w s v ≡ stepped (doing Backward) (reverse (commandsOf w s)) v
-  run-backward v =
+  pub run_backward : (v : List (List ℕ)) → run_vectors Backward w s v ≡ stepped (doing Backward) (reverse (commands_of w s)) v
+  run_backward v =
       let l = (plan_of w s).offsets in
-      steps-commands Backward (reverse l) v
-      ∙ ap (λ (m : List Command). stepped (doing Backward) m v) (flat-reverse (λ i. commandIn (readAt w s i)) (λ i. one_way (readAt w s i)) l)
+      steps_commands Backward (reverse l) v
+      ∙ ap (λ (m : List Command). stepped (doing Backward) m v) (flat_reverse (λ i. command_in (read_at w s i)) (λ i. one_way (read_at w s i)) l)
 
   -- ---- units
 
@@ -67,20 +67,20 @@ module _ (w : ℕ) (s : List ℕ) where
   unfolding sum
   counted_none = refl
 
-  counted-read : (i : ℕ) (r : Read) → readAt w s i ≡ r → unitsIn r ≡ counted (commandIn r)
+  counted_read : (i : ℕ) (r : Read) → read_at w s i ≡ r → units_in r ≡ counted (command_in r)
   unfolding sum
-  counted-read i (Got d) e = omega (arith, (reading-tells w s i d e).of-command)
-  counted-read i (Fault r) e = refl
-  counted-read i End e = refl
+  counted_read i (Got d) e = omega (arith, (reading_tells w s i d e).of_command)
+  counted_read i (Fault r) e = refl
+  counted_read i End e = refl
 
-  units-commands : (l : List ℕ) → totalUnits w s l ≡ counted (commandsAt w s l)
-  units-commands [] = units-none placeCount w s ∙ counted_none ∙ ap counted (sym at_none)
-  units-commands (i ∷ l) =
-      units-more placeCount w s i l
-      ∙ ap₂ ◌+◌ (counted-read i (readAt w s i) refl) (units-commands l)
-      ∙ sym (sum-append ◌+◌ 0 zero-add add_assoc (map units (commandIn (readAt w s i))) (map units (commandsAt w s l)))
-      ∙ ap (sum ◌+◌ 0) (sym (map-append units (commandIn (readAt w s i)) (commandsAt w s l)))
+  units_commands : (l : List ℕ) → total_units w s l ≡ counted (commands_at w s l)
+  units_commands [] = units_none place_count w s ∙ counted_none ∙ ap counted (sym at_none)
+  units_commands (i ∷ l) =
+      units_more place_count w s i l
+      ∙ ap₂ ◌+◌ (counted_read i (read_at w s i) refl) (units_commands l)
+      ∙ sym (sum-append ◌+◌ 0 zero-add add_assoc (map units (command_in (read_at w s i))) (map units (commands_at w s l)))
+      ∙ ap (sum ◌+◌ 0) (sym (map-append units (command_in (read_at w s i)) (commands_at w s l)))
       ∙ ap counted (sym (at_more i l))
 
-  pub run-units : totalUnits w s (plan_of w s).offsets ≡ counted (commandsOf w s)
-  run-units = units-commands (plan_of w s).offsets
+  pub run_units_lem : total_units w s (plan_of w s).offsets ≡ counted (commands_of w s)
+  run_units_lem = units_commands (plan_of w s).offsets

@@ -14,20 +14,20 @@ use Rattle.sheet.specs.declared.Places.{Places}
 use Rattle.sheet.specs.declared.Command.{Command}
 use Rattle.sheet.specs.declared.Read.{Read}
 use Rattle.sheet.specs.declared.Read.TheVariants.{Got, Fault, End}
-use Rattle.sheet.specs.Read.{placeCount, size_of, twoPlaceCommand, onePlaceCommand, twoPlaces, onePlace, readAmong, readAt}
-use Rattle.sheet.specs.Sheet.{Sound, Plan, scanFrom, plan_of}
-use Rattle.sheet.specs.Enough.{PlanFrom, at-command, at-fault, at-end}
+use Rattle.sheet.specs.Read.{place_count, size_of, two_place_command, one_place_command, two_places, one_place, read_among, read_at}
+use Rattle.sheet.specs.Sheet.{Sound, Plan, scan_from, plan_of}
+use Rattle.sheet.specs.Enough.{PlanFrom, at_command, at_fault, at_end}
 use Rattle.sheet.specs.Sound.{SoundCommand, SoundRead}
-use Rattle.sheet.proofs.Sound.{size-two, size-three, read-sound, got-sound}
-use Rattle.sheet.proofs.Scan.{plan-scanned}
-use Rattle.sheet.proofs.Checked.{sound-short}
-use Rattle.sheet.proofs.Enough.{steps-enough}
-use Rattle.inverse.specs.Encoding.{immediate, encoded, allEncoded, commandIn, commandsAt, ReadingDecodes, SheetsEncoded}
-use Rattle.inverse.proofs.Lists.{flat-none, flat-more}
+use Rattle.sheet.proofs.Sound.{size_two, size_three, read_sound, got_sound}
+use Rattle.sheet.proofs.Scan.{plan_scanned}
+use Rattle.sheet.proofs.Checked.{sound_short}
+use Rattle.sheet.proofs.Enough.{steps_enough}
+use Rattle.inverse.specs.Encoding.{immediate, encoded, all_encoded, command_in, commands_at, ReadingDecodes, SheetsEncoded}
+use Rattle.inverse.proofs.Lists.{flat_none, flat_more}
 
 -- a K that lies in the sheet has all its bytes
-pub immediate-length : (w : ℕ) (s : List ℕ) (k : ℕ) → k + w ≤ length s → length (immediate w s k) ≡ w
-immediate-length w s k h = let l = length-drop k s in length-take-le w (drop k s) (omega arith)
+pub immediate_length : (w : ℕ) (s : List ℕ) (k : ℕ) → k + w ≤ length s → length (immediate w s k) ≡ w
+immediate_length w s k h = let l = length-drop k s in length-take-le w (drop k s) (omega arith)
 
 module _ (w : ℕ) (s : List ℕ) where
   -- ---- a command's bytes by its opcode b
@@ -35,7 +35,7 @@ module _ (w : ℕ) (s : List ℕ) where
   above : (b k : ℕ) → k ≤ b → eqb b k ≡ false → k + 1 ≤ b
   above b k l h = let q : b ≡ k → ⊥ = eqb-false b k h in omega arith
 
-  two_bytes : (b : ℕ) (p : Places) → 1 ≤ b → b < 6 → encoded w s (twoPlaceCommand b p) ≡ b ∷ p.d ∷ p.s ∷ []
+  two_bytes : (b : ℕ) (p : Places) → 1 ≤ b → b < 6 → encoded w s (two_place_command b p) ≡ b ∷ p.d ∷ p.s ∷ []
   two_bytes b p z l =
       let P : Command → Type 0 = λ c. encoded w s c ≡ b ∷ p.d ∷ p.s ∷ [] in
       let by : (k : ℕ) → k ≡ b → k ∷ p.d ∷ p.s ∷ [] ≡ b ∷ p.d ∷ p.s ∷ [] = λ k e. ap (λ (x : ℕ). x ∷ p.d ∷ p.s ∷ []) e in
@@ -45,8 +45,8 @@ module _ (w : ℕ) (s : List ℕ) where
       split P (eqb b 4) _ _ (λ e. by 4 (sym (eqb-true b 4 e))) λ e₄.
       by 5 (omega (arith, above b 4 (above b 3 (above b 2 (above b 1 z e₁) e₂) e₃) e₄))
 
-  one-bytes : (b d k : ℕ) → 6 ≤ b → b ≤ 8 → encoded w s (onePlaceCommand b d k) ≡ b ∷ d ∷ take (size_of w b - 2) (drop k s)
-  one-bytes b d k z l =
+  one_bytes : (b d k : ℕ) → 6 ≤ b → b ≤ 8 → encoded w s (one_place_command b d k) ≡ b ∷ d ∷ take (size_of w b - 2) (drop k s)
+  one_bytes b d k z l =
       let P : Command → Type 0 = λ c. encoded w s c ≡ b ∷ d ∷ take (size_of w b - 2) (drop k s) in
       split P (eqb b 6) _ _ (λ e. rw (eqb-true b 6 e)) λ e.
       let size : size_of w b ≡ w + 2 = rw (le-ltb b 6 z, e) in
@@ -65,8 +65,8 @@ module _ (w : ℕ) (s : List ℕ) where
     Stands End = Unit {0}
 
     -- the first bytes from there on
-    from-two : i + 2 ≤ length s → get_or s i 0 ∷ get_or s (i + 1) 0 ∷ drop (i + 2) s ≡ drop i s
-    from-two h =
+    from_two : i + 2 ≤ length s → get_or s i 0 ∷ get_or s (i + 1) 0 ∷ drop (i + 2) s ≡ drop i s
+    from_two h =
         let one : suc i ≡ i + 1 = omega arith in
         let two : suc (i + 1) ≡ i + 2 = omega arith in
         let first : drop i s ≡ get_or s i 0 ∷ drop (i + 1) s = drop-cons s i 0 (omega arith) ∙ ap (λ (j : ℕ). get_or s i 0 ∷ drop j s) one in
@@ -78,31 +78,31 @@ module _ (w : ℕ) (s : List ℕ) where
     third h = let e : suc (i + 2) ≡ i + 3 = omega arith in sym (drop-cons s (i + 2) 0 (omega arith) ∙ ap (λ (j : ℕ). get_or s (i + 2) 0 ∷ drop j s) e)
 
     module _ (b : ℕ) (is : b ≡ get_or s i 0) (fits : i + size_of w b ≤ length s) where
-      two-stand : 1 ≤ b → b < 6 → Stands (twoPlaces b (record { d = get_or s (i + 1) 0; s = get_or s (i + 2) 0 }) (i + size_of w b))
-      two-stand z l =
+      two_stand : 1 ≤ b → b < 6 → Stands (two_places b (record { d = get_or s (i + 1) 0; s = get_or s (i + 2) 0 }) (i + size_of w b))
+      two_stand z l =
           let p : Places = record { d = get_or s (i + 1) 0; s = get_or s (i + 2) 0 } in
-          let size : size_of w b ≡ 3 = size-three w b l in
-          split Stands (leb placeCount p.d || leb placeCount p.s) _ _ (λ _. tt) λ _.
+          let size : size_of w b ≡ 3 = size_three w b l in
+          split Stands (leb place_count p.d || leb place_count p.s) _ _ (λ _. tt) λ _.
           split Stands (eqb p.d p.s) _ _ (λ _. tt) λ _.
           ap₂ {C = List ℕ} (λ (e : List ℕ) (j : ℕ). e ++ drop (i + j) s) (two_bytes b p z l) size
           ∙ ap₂ {C = List ℕ} (λ (x : ℕ) (r : List ℕ). x ∷ p.d ∷ r) is (third (omega arith))
-          ∙ from-two (omega arith)
+          ∙ from_two (omega arith)
 
-      one-stands : 6 ≤ b → b ≤ 8 → Stands (onePlace b (get_or s (i + 1) 0) (i + 2) (i + size_of w b))
-      one-stands z l =
+      one_stands : 6 ≤ b → b ≤ 8 → Stands (one_place b (get_or s (i + 1) 0) (i + 2) (i + size_of w b))
+      one_stands z l =
           let d = get_or s (i + 1) 0 in
-          let two = size-two w b in
+          let two = size_two w b in
           let e : i + 2 + (size_of w b - 2) ≡ i + size_of w b = omega arith in
           let rest : take (size_of w b - 2) (drop (i + 2) s) ++ drop (i + size_of w b) s ≡ drop (i + 2) s =
           ap (λ (r : List ℕ). take (size_of w b - 2) (drop (i + 2) s) ++ r) (ap (λ (j : ℕ). drop j s) (sym e) ∙ sym (drop-drop (size_of w b - 2) (i + 2) s))
           ∙ take-append-drop (size_of w b - 2) (drop (i + 2) s) in
-          split Stands (leb placeCount d) _ _ (λ _. tt) λ _.
-          ap (λ (r : List ℕ). r ++ drop (i + size_of w b) s) (one-bytes b d (i + 2) z l)
+          split Stands (leb place_count d) _ _ (λ _. tt) λ _.
+          ap (λ (r : List ℕ). r ++ drop (i + size_of w b) s) (one_bytes b d (i + 2) z l)
           ∙ ap₂ {C = List ℕ} (λ (x : ℕ) (r : List ℕ). x ∷ d ∷ r) is rest
-          ∙ from-two (omega arith)
+          ∙ from_two (omega arith)
 
-    stands : Stands (readAt w s i)
-    unfolding readAmong
+    stands : Stands (read_at w s i)
+    unfolding read_among
     stands =
         let b = get_or s i 0 in
         split Stands (leb (length s) i) _ _ (λ _. tt) λ _.
@@ -111,50 +111,50 @@ module _ (w : ℕ) (s : List ℕ) where
         let fits = ltb-false (length s) (i + size_of w b) f in
         let one : 1 ≤ b = above b 0 (omega arith) (neither (eqb b 0) (ltb 8 b) z).0 in
         let most : b ≤ 8 = ltb-false 8 b (neither (eqb b 0) (ltb 8 b) z).1 in
-        split Stands (ltb b 6) _ _ (λ l. two-stand b refl fits one (ltb-true b 6 l)) (λ l. one-stands b refl fits (ltb-false b 6 l) most)
+        split Stands (ltb b 6) _ _ (λ l. two_stand b refl fits one (ltb-true b 6 l)) (λ l. one_stands b refl fits (ltb-false b 6 l) most)
 
-pub reading-decodes : ReadingDecodes
-reading-decodes w s i d e = subst (Stands w s i) e (stands w s i)
+pub reading_decodes : ReadingDecodes
+reading_decodes w s i d e = subst (Stands w s i) e (stands w s i)
 
 -- ---- a sheet without a fault
 
 module _ (w : ℕ) (s : List ℕ) where
   -- of the commands at the offsets of a plan from offset i on
   pub record Faithful (i : ℕ) (l : List ℕ) : Type 0 where
-    pub bytes : allEncoded w s (commandsAt w s l) ≡ drop i s
-    pub sound : Each (SoundCommand w (length s)) (commandsAt w s l)
+    pub bytes : all_encoded w s (commands_at w s l) ≡ drop i s
+    pub sound : Each (SoundCommand w (length s)) (commands_at w s l)
 
-  faithful-from : {i : ℕ} {p : Plan} → PlanFrom placeCount w s i p → p.outcome ≡ Sound → Faithful i p.offsets
-  faithful-from (at-command {i} {d} {p} e k) h =
-      let rest = faithful-from k h in
+  faithful_from : {i : ℕ} {p : Plan} → PlanFrom place_count w s i p → p.outcome ≡ Sound → Faithful i p.offsets
+  faithful_from (at_command {i} {d} {p} e k) h =
+      let rest = faithful_from k h in
       let l = p.offsets in
-      let f : commandsAt w s (i ∷ l) ≡ d.command ∷ commandsAt w s l =
-      flat-more (λ i. commandIn (readAt w s i)) i l ∙ ap (λ (r : Read). commandIn r ++ commandsAt w s l) e in
+      let f : commands_at w s (i ∷ l) ≡ d.command ∷ commands_at w s l =
+      flat_more (λ i. command_in (read_at w s i)) i l ∙ ap (λ (r : Read). command_in r ++ commands_at w s l) e in
       record {
         bytes =
-            ap (allEncoded w s) f
-            ∙ flat-more (encoded w s) d.command (commandsAt w s l)
+            ap (all_encoded w s) f
+            ∙ flat_more (encoded w s) d.command (commands_at w s l)
             ∙ ap (λ (r : List ℕ). encoded w s d.command ++ r) rest.bytes
-            ∙ reading-decodes w s i d e;
-        sound = subst (Each (SoundCommand w (length s))) (sym f) (more (got-sound w s i e).sound rest.sound);
+            ∙ reading_decodes w s i d e;
+        sound = subst (Each (SoundCommand w (length s))) (sym f) (more (got_sound w s i e).sound rest.sound);
       }
-  faithful-from (at-fault e) h = let z : ◌≡◌ {A = ℕ} 0 1 = cc in absurd (omega arith)
-  faithful-from (at-end {i} e) h =
-      let f : commandsAt w s [] ≡ [] = flat-none (λ i. commandIn (readAt w s i)) in
-      let long : length s ≤ i = subst (SoundRead placeCount w (length s) i) e (read-sound placeCount w s i) in
+  faithful_from (at_fault e) h = let z : ◌≡◌ {A = ℕ} 0 1 = cc in absurd (omega arith)
+  faithful_from (at_end {i} e) h =
+      let f : commands_at w s [] ≡ [] = flat_none (λ i. command_in (read_at w s i)) in
+      let long : length s ≤ i = subst (SoundRead place_count w (length s) i) e (read_sound place_count w s i) in
       record {
-        bytes = ap (allEncoded w s) f ∙ flat-none (encoded w s) ∙ sym (drop_of_length-le s long);
+        bytes = ap (all_encoded w s) f ∙ flat_none (encoded w s) ∙ sym (drop_of_length-le s long);
         sound = subst (Each (SoundCommand w (length s))) (sym f) none;
       }
 
   -- of the rest of the sheet, and of the whole
-  pub faithful-rest : (i : ℕ) → (scanFrom (length s) w s i).outcome ≡ Sound → Faithful i (scanFrom (length s) w s i).offsets
-  faithful-rest i h = faithful-from (steps-enough placeCount w s i).plan h
+  pub faithful_rest : (i : ℕ) → (scan_from (length s) w s i).outcome ≡ Sound → Faithful i (scan_from (length s) w s i).offsets
+  faithful_rest i h = faithful_from (steps_enough place_count w s i).plan h
 
   pub faithful : (plan_of w s).outcome ≡ Sound → Faithful 0 (plan_of w s).offsets
   faithful h =
-      let e = plan-scanned placeCount w s (sound-short w s h) in
-      rw (← e) (faithful-rest 0 (ap (λ (p : Plan). p.outcome) e ∙ h))
+      let e = plan_scanned place_count w s (sound_short w s h) in
+      rw (← e) (faithful_rest 0 (ap (λ (p : Plan). p.outcome) e ∙ h))
 
-pub sheets-encoded : SheetsEncoded
-sheets-encoded w s h = (faithful w s h).bytes
+pub sheets_encoded : SheetsEncoded
+sheets_encoded w s h = (faithful w s h).bytes

@@ -12,38 +12,38 @@ use lib.Seq.{take_at, drop_at}
 use Rattle.answer.specs.declared.Answer.{Answer}
 use Rattle.answer.specs.declared.Answer.TheVariants.{Done}
 use Rattle.answer.specs.declared.Refusal.TheVariants.{Output}
-use Rattle.answer.specs.Refuse.{unless, isDone, outcome}
-use Rattle.answer.proofs.Refuse.{done-outcome, unless-done}
+use Rattle.answer.specs.Refuse.{unless, is_done, outcome}
+use Rattle.answer.proofs.Refuse.{done_outcome, unless_done}
 use Rattle.invertible.specs.Invertible.{stepped, Each, none, more}
 use Rattle.invertible.specs.RoundTrip.{Direction, Forward, Backward, other}
-use Rattle.invertible.proofs.Invertible.{each, each-mapped, each-reverse, map-reverse, map_same, stepped-map, stepped_same}
+use Rattle.invertible.proofs.Invertible.{each, each_mapped, each_reverse, map_reverse, map_same, stepped_map, stepped_same}
 use Rattle.memory.specs.Bytes.{Bytes}
-use Rattle.memory.proofs.Bytes.{no_bytes, cons-bytes, append-bytes, take-bytes, drop-bytes}
+use Rattle.memory.proofs.Bytes.{no_bytes, cons_bytes, append_bytes, take_bytes, drop_bytes}
 use Rattle.sheet.specs.declared.Places.{Places}
 use Rattle.sheet.specs.declared.Command.{Command}
 use Rattle.sheet.specs.declared.Command.TheVariants.{Lmul, Rmul, Ldiv, Rdiv, Swap, Flip, Kmul, Kdiv}
 use Rattle.sheet.specs.Units.{units}
-use Rattle.sheet.specs.Read.{placeCount}
+use Rattle.sheet.specs.Read.{place_count}
 use Rattle.sheet.specs.Sheet.{Sound, Plan, plan_of}
 use Rattle.sheet.specs.Effect.{effect, undone}
-use Rattle.sheet.specs.Work.{totalUnits}
-use Rattle.sheet.specs.SheetAnswer.{sheetAnswerAmong}
-use Rattle.sheet.specs.Run.{vectorsIn, vectorBytes, runVectors, runAnswer, runBytes}
+use Rattle.sheet.specs.Work.{total_units}
+use Rattle.sheet.specs.SheetAnswer.{sheet_answer_among}
+use Rattle.sheet.specs.Run.{vectors_in, vector_bytes, run_vectors, run_answer, run_bytes}
 use Rattle.sheet.specs.Sound.{SoundPlaces, SoundCommand}
-use Rattle.sheet.proofs.Scan.{plan-scanned}
-use Rattle.sheet.proofs.Enough.{steps-enough}
-use Rattle.sheet.proofs.SheetAnswer.{passes, done-passed, refused-alike}
-use Rattle.sheet.proofs.Checked.{sound-short}
-use Rattle.sheet.proofs.Counting.{undone-alike}
-use Rattle.sheet.proofs.Undoing.{sound-undone, undone-undone}
-use Rattle.inverse.specs.Encoding.{Accepted, immediate, encoded, allEncoded, commandsOf}
-use Rattle.inverse.specs.Inverse.{inverseSheet, inverseWritten, roomAnswer, inverseAnswer}
+use Rattle.sheet.proofs.Scan.{plan_scanned}
+use Rattle.sheet.proofs.Enough.{steps_enough}
+use Rattle.sheet.proofs.SheetAnswer.{passes, done_passed, refused_alike}
+use Rattle.sheet.proofs.Checked.{sound_short}
+use Rattle.sheet.proofs.Counting.{undone_alike}
+use Rattle.sheet.proofs.Undoing.{sound_undone, undone_undone}
+use Rattle.inverse.specs.Encoding.{Accepted, immediate, encoded, all_encoded, commands_of}
+use Rattle.inverse.specs.Inverse.{inverse_sheet, inverse_written, room_answer, inverse_answer}
 use Rattle.inverse.specs.Inverts.{UndoingBytes, SheetsInvert, RefusesAsRuns, SuccessWrites}
-use Rattle.inverse.proofs.Lists.{flat-none, flat-more, flat-over, flat-length-reverse, flat-length-map, map_back}
-use Rattle.inverse.proofs.Lists.{pairs-reverse, pairs-map, pairs-stepped, pairs-flat}
+use Rattle.inverse.proofs.Lists.{flat_none, flat_more, flat_over, flat_length_reverse, flat_length_map, map_back}
+use Rattle.inverse.proofs.Lists.{pairs_reverse, pairs_map, pairs_stepped, pairs_flat}
 use Rattle.inverse.proofs.Encoding.{faithful}
 use Rattle.inverse.proofs.Reading.{Alike, ReadAs, read_as}
-use Rattle.inverse.proofs.Commands.{run-forward, run-backward, run-units}
+use Rattle.inverse.proofs.Commands.{run_forward, run_backward, run_units_lem}
 
 -- ---- the bytes of a command
 
@@ -58,128 +58,128 @@ undoing w s (Flip d) = (refl, refl)
 undoing w s (Kmul d k) = (refl, refl)
 undoing w s (Kdiv d k) = (refl, refl)
 
-pub undoing-bytes : UndoingBytes
-undoing-bytes w s c = (undoing w s c).0
+pub undoing_bytes : UndoingBytes
+undoing_bytes w s c = (undoing w s c).0
 
-pub undoing-length : (w : ℕ) (s : List ℕ) (c : Command) → length (encoded w s (undone c)) ≡ length (encoded w s c)
-undoing-length w s c = (undoing w s c).1
+pub undoing_length : (w : ℕ) (s : List ℕ) (c : Command) → length (encoded w s (undone c)) ≡ length (encoded w s c)
+undoing_length w s c = (undoing w s c).1
 
 -- what undoes commands is as long as they are
-pub inverse-length : (w : ℕ) (s : List ℕ) (l : List Command) → length (allEncoded w s (reverse (map undone l))) ≡ length (allEncoded w s l)
-inverse-length w s l = flat-length-reverse (encoded w s) (map undone l) ∙ flat-length-map (encoded w s) undone (undoing-length w s) l
+pub inverse_length : (w : ℕ) (s : List ℕ) (l : List Command) → length (all_encoded w s (reverse (map undone l))) ≡ length (all_encoded w s l)
+inverse_length w s l = flat_length_reverse (encoded w s) (map undone l) ∙ flat_length_map (encoded w s) undone (undoing_length w s) l
 
 module _ (w : ℕ) (s : List ℕ) (hs : Bytes s) where
-  immediate-bytes : (k : ℕ) → Bytes (immediate w s k)
-  immediate-bytes k = take-bytes w (drop k s) (drop-bytes k s hs)
+  immediate_bytes : (k : ℕ) → Bytes (immediate w s k)
+  immediate_bytes k = take_bytes w (drop k s) (drop_bytes k s hs)
 
   -- opcode, place and rest
-  front_bytes : (b d : ℕ) (l : List ℕ) → b ≤ 8 → d < placeCount → Bytes l → Bytes (b ∷ d ∷ l)
-  front_bytes b d l e h k = cons-bytes b (d ∷ l) (omega arith) (cons-bytes d l (omega arith) k)
+  front_bytes : (b d : ℕ) (l : List ℕ) → b ≤ 8 → d < place_count → Bytes l → Bytes (b ∷ d ∷ l)
+  front_bytes b d l e h k = cons_bytes b (d ∷ l) (omega arith) (cons_bytes d l (omega arith) k)
 
-  two_bytes : (b : ℕ) (p : Places) → b ≤ 8 → SoundPlaces placeCount p → Bytes (b ∷ p.d ∷ p.s ∷ [])
-  two_bytes b p e h = front_bytes b p.d (p.s ∷ []) e h.first (cons-bytes p.s [] (omega (arith, h.second)) no_bytes)
+  two_bytes : (b : ℕ) (p : Places) → b ≤ 8 → SoundPlaces place_count p → Bytes (b ∷ p.d ∷ p.s ∷ [])
+  two_bytes b p e h = front_bytes b p.d (p.s ∷ []) e h.first (cons_bytes p.s [] (omega (arith, h.second)) no_bytes)
 
-  encoded-bytes : (c : Command) → SoundCommand w (length s) c → Bytes (encoded w s c)
-  encoded-bytes (Lmul p) h = two_bytes 1 p (omega arith) h
-  encoded-bytes (Rmul p) h = two_bytes 2 p (omega arith) h
-  encoded-bytes (Ldiv p) h = two_bytes 3 p (omega arith) h
-  encoded-bytes (Rdiv p) h = two_bytes 4 p (omega arith) h
-  encoded-bytes (Swap p) h = two_bytes 5 p (omega arith) h
-  encoded-bytes (Flip d) h = front_bytes 6 d [] (omega arith) h no_bytes
-  encoded-bytes (Kmul d k) h = front_bytes 7 d (immediate w s k) (omega arith) h.place (immediate-bytes k)
-  encoded-bytes (Kdiv d k) h = front_bytes 8 d (immediate w s k) (omega arith) h.place (immediate-bytes k)
+  encoded_bytes : (c : Command) → SoundCommand w (length s) c → Bytes (encoded w s c)
+  encoded_bytes (Lmul p) h = two_bytes 1 p (omega arith) h
+  encoded_bytes (Rmul p) h = two_bytes 2 p (omega arith) h
+  encoded_bytes (Ldiv p) h = two_bytes 3 p (omega arith) h
+  encoded_bytes (Rdiv p) h = two_bytes 4 p (omega arith) h
+  encoded_bytes (Swap p) h = two_bytes 5 p (omega arith) h
+  encoded_bytes (Flip d) h = front_bytes 6 d [] (omega arith) h no_bytes
+  encoded_bytes (Kmul d k) h = front_bytes 7 d (immediate w s k) (omega arith) h.place (immediate_bytes k)
+  encoded_bytes (Kdiv d k) h = front_bytes 8 d (immediate w s k) (omega arith) h.place (immediate_bytes k)
 
-  all-bytes : {l : List Command} → Each (SoundCommand w (length s)) l → Bytes (allEncoded w s l)
-  all-bytes none = rw (flat-none (encoded w s)) no_bytes
-  all-bytes (more {a = c} {l} h k) = rw (flat-more (encoded w s) c l) (append-bytes (encoded w s c) (allEncoded w s l) (encoded-bytes c h) (all-bytes k))
+  all_bytes : {l : List Command} → Each (SoundCommand w (length s)) l → Bytes (all_encoded w s l)
+  all_bytes none = rw (flat_none (encoded w s)) no_bytes
+  all_bytes (more {a = c} {l} h k) = rw (flat_more (encoded w s) c l) (append_bytes (encoded w s c) (all_encoded w s l) (encoded_bytes c h) (all_bytes k))
 
 -- ---- an accepted sheet s, and its inverse t
 
 module _ (w : ℕ) (s : List ℕ) (h : Accepted w s) where
   abbrev commands : List Command
-  commands = commandsOf w s
+  commands = commands_of w s
 
   abbrev back : List Command
   back = reverse (map undone commands)
 
   abbrev t : List ℕ
-  t = inverseSheet w s
+  t = inverse_sheet w s
 
-  back-sound : Each (SoundCommand w (length s)) back
-  back-sound = each-reverse (each-mapped undone (λ c k. sound-undone placeCount w (length s) c k) (faithful w s h).sound)
+  back_sound : Each (SoundCommand w (length s)) back
+  back_sound = each_reverse (each_mapped undone (λ c k. sound_undone place_count w (length s) c k) (faithful w s h).sound)
 
   size : length t ≡ length s
-  size = inverse-length w s commands ∙ ap length (faithful w s h).bytes
+  size = inverse_length w s commands ∙ ap length (faithful w s h).bytes
 
   read : ReadAs w s t 0 back
-  read = read_as w s back-sound []
+  read = read_as w s back_sound []
 
   plan : plan_of w t ≡ record { offsets = read.offsets; outcome = Sound }
   plan =
-      let short : length t ≤ 4096 = rw size (sound-short w s h) in
-      sym (plan-scanned placeCount w t short) ∙ sym ((steps-enough placeCount w t 0).only _ read.plan)
+      let short : length t ≤ 4096 = rw size (sound_short w s h) in
+      sym (plan_scanned place_count w t short) ∙ sym ((steps_enough place_count w t 0).only _ read.plan)
 
   accepted : Accepted w t
   accepted = ap (λ (p : Plan). p.outcome) plan
 
-  alike : Forall₂ (Alike w s t) (commandsOf w t) back
+  alike : Forall₂ (Alike w s t) (commands_of w t) back
   alike = rw plan read.commands
 
   -- turned twice
-  back-undone : reverse (map undone back) ≡ commands
-  back-undone =
-      ap reverse (map-reverse undone (map undone commands))
+  back_undone : reverse (map undone back) ≡ commands
+  back_undone =
+      ap reverse (map_reverse undone (map undone commands))
       ∙ reverse-reverse (map undone (map undone commands))
-      ∙ map_back undone undone-undone commands
+      ∙ map_back undone undone_undone commands
 
-  inverse-bytes : (l : List Command) (u : List ℕ) → allEncoded w u (reverse (map undone l)) ≡ flat_map (λ c. encoded w u (undone c)) (reverse l)
-  inverse-bytes l u = ap (allEncoded w u) (sym (map-reverse undone l)) ∙ flat-over (encoded w u) undone (reverse l)
+  inverse_bytes : (l : List Command) (u : List ℕ) → all_encoded w u (reverse (map undone l)) ≡ flat_map (λ c. encoded w u (undone c)) (reverse l)
+  inverse_bytes l u = ap (all_encoded w u) (sym (map_reverse undone l)) ∙ flat_over (encoded w u) undone (reverse l)
 
-  twice : inverseSheet w t ≡ s
+  twice : inverse_sheet w t ≡ s
   twice =
-      inverse-bytes (commandsOf w t) t
-      ∙ pairs-flat (λ a c k. k.bytes) (pairs-reverse alike)
-      ∙ sym (inverse-bytes back s)
-      ∙ ap (allEncoded w s) back-undone
+      inverse_bytes (commands_of w t) t
+      ∙ pairs_flat (λ a c k. k.bytes) (pairs_reverse alike)
+      ∙ sym (inverse_bytes back s)
+      ∙ ap (all_encoded w s) back_undone
       ∙ (faithful w s h).bytes
 
   -- what a run does
-  vectors : (g : Direction) (v : List (List ℕ)) → runVectors g w t v ≡ runVectors (other g) w s v
+  vectors : (g : Direction) (v : List (List ℕ)) → run_vectors g w t v ≡ run_vectors (other g) w s v
   vectors Forward v =
-      run-forward w t v
-      ∙ pairs-stepped (λ a c k. k.effects Forward) alike v
-      ∙ ap (λ (l : List Command). stepped (effect w s) l v) (sym (map-reverse undone commands))
-      ∙ stepped-map (effect w s) undone (reverse commands) v
-      ∙ sym (run-backward w s v)
+      run_forward w t v
+      ∙ pairs_stepped (λ a c k. k.effects Forward) alike v
+      ∙ ap (λ (l : List Command). stepped (effect w s) l v) (sym (map_reverse undone commands))
+      ∙ stepped_map (effect w s) undone (reverse commands) v
+      ∙ sym (run_backward w s v)
   vectors Backward v =
-      run-backward w t v
-      ∙ pairs-stepped (λ a c k. k.effects Backward) (pairs-reverse alike) v
+      run_backward w t v
+      ∙ pairs_stepped (λ a c k. k.effects Backward) (pairs_reverse alike) v
       ∙ ap (λ (l : List Command). stepped (λ c. effect w s (undone c)) l v) (reverse-reverse (map undone commands))
-      ∙ stepped-map (λ c. effect w s (undone c)) undone commands v
-      ∙ stepped_same (each (λ c v. ap (λ (a : Command). effect w s a v) (undone-undone c)) commands) v
-      ∙ sym (run-forward w s v)
+      ∙ stepped_map (λ c. effect w s (undone c)) undone commands v
+      ∙ stepped_same (each (λ c v. ap (λ (a : Command). effect w s a v) (undone_undone c)) commands) v
+      ∙ sym (run_forward w s v)
 
   -- .. and counts
-  total : totalUnits w t (plan_of w t).offsets ≡ totalUnits w s (plan_of w s).offsets
+  total : total_units w t (plan_of w t).offsets ≡ total_units w s (plan_of w s).offsets
   total =
-      run-units w t
-      ∙ ap (sum ◌+◌ 0) (pairs-map (λ a c k. k.counted) alike ∙ map-reverse units (map undone commands))
+      run_units_lem w t
+      ∙ ap (sum ◌+◌ 0) (pairs_map (λ a c k. k.counted) alike ∙ map_reverse units (map undone commands))
       ∙ sum-reverse ◌+◌ 0 zero-add add_assoc add_comm (map units (map undone commands))
-      ∙ ap (sum ◌+◌ 0) (map-map units undone commands ∙ map_same (each undone-alike commands))
-      ∙ sym (run-units w s)
+      ∙ ap (sum ◌+◌ 0) (map-map units undone commands ∙ map_same (each undone_alike commands))
+      ∙ sym (run_units_lem w s)
 
-  answer : (b : List ℕ) → runAnswer w t b ≡ runAnswer w s b
-  unfolding sheetAnswerAmong
+  answer : (b : List ℕ) → run_answer w t b ≡ run_answer w s b
+  unfolding sheet_answer_among
   answer b = rw (accepted, h, total)
 
-  run : (g : Direction) (b : List ℕ) → runBytes g w t b ≡ runBytes (other g) w s b
-  run g b = ap₂ {C = List ℕ} (λ (a : Answer) v. outcome a (vectorBytes w v) b) (answer b) (vectors g (vectorsIn w b))
+  run : (g : Direction) (b : List ℕ) → run_bytes g w t b ≡ run_bytes (other g) w s b
+  run g b = ap₂ {C = List ℕ} (λ (a : Answer) v. outcome a (vector_bytes w v) b) (answer b) (vectors g (vectors_in w b))
 
-pub sheets-invert : SheetsInvert
-sheets-invert w s h =
+pub sheets_invert : SheetsInvert
+sheets_invert w s h =
     record {
       size = size w s h;
-      bytes = λ hs. all-bytes w s hs (back-sound w s h);
+      bytes = λ hs. all_bytes w s hs (back_sound w s h);
       accepted = accepted w s h;
       twice = twice w s h;
       answer = answer w s h;
@@ -188,28 +188,28 @@ sheets-invert w s h =
 
 -- ---- refusals
 
-pub refuses-as-runs : RefusesAsRuns
-refuses-as-runs w s b out size =
-    let fit = eq-eqb (length b) (placeCount * w) size in
-    let done = Done (totalUnits w s (plan_of w s).offsets) in
-    let next = roomAnswer (length s) (length out) in
+pub refuses_as_runs : RefusesAsRuns
+refuses_as_runs w s b out size =
+    let fit = eq-eqb (length b) (place_count * w) size in
+    let done = Done (total_units w s (plan_of w s).offsets) in
+    let next = room_answer (length s) (length out) in
     record {
-      refused = λ r i e. let f = rw fit at e in sym (refused-alike placeCount w true s done next refl (ap isDone f)) ∙ f;
-      done = λ n e. let f = rw fit at e in sym (passes placeCount w true s next (done-passed placeCount w true s done (ap isDone f)));
+      refused = λ r i e. let f = rw fit at e in sym (refused_alike place_count w true s done next refl (ap is_done f)) ∙ f;
+      done = λ n e. let f = rw fit at e in sym (passes place_count w true s next (done_passed place_count w true s done (ap is_done f)));
     }
 
 -- ---- a success
 
-pub success-writes : SuccessWrites
-success-writes w s out d =
+pub success_writes : SuccessWrites
+success_writes w s out d =
     let m = length s in
-    let next = roomAnswer m (length out) in
-    let p = done-passed placeCount w true s next d in
-    let room = sym (passes placeCount w true s next p) in
-    let fits = (unless-done (leb m (length out)) Output (Done m) (sym (ap isDone room) ∙ d)).0 in
+    let next = room_answer m (length out) in
+    let p = done_passed place_count w true s next d in
+    let room = sym (passes place_count w true s next p) in
+    let fits = (unless_done (leb m (length out)) Output (Done m) (sym (ap is_done room) ∙ d)).0 in
     let answered = room ∙ ap (λ (t : Bool). unless t Output (Done m)) fits in
-    let left = sym (done-outcome (inverseAnswer w s out) (inverseWritten w s out) out d) in
-    let inv = inverseSheet w s in
+    let left = sym (done_outcome (inverse_answer w s out) (inverse_written w s out) out d) in
+    let inv = inverse_sheet w s in
     record {
       accepted = p.sheet;
       answer = answered;

@@ -8,36 +8,36 @@ use lib.ListN.{length, set, take, drop, length-append}
 use lib.Seq.{get_or-append_seam, get_or-append-add, drop-append-add, take_at}
 use Rattle.invertible.specs.Invertible.{Each, none, more}
 use Rattle.invertible.specs.RoundTrip.{Direction, Forward, Backward}
-use Rattle.memory.proofs.Bytes.{words_take, words-drop}
+use Rattle.memory.proofs.Bytes.{words_take, words_drop}
 use Rattle.quasigroup.specs.Tables.{width_of}
 use Rattle.quasigroup.specs.Product.{product}
-use Rattle.quasigroup.specs.Division.{leftDivision}
+use Rattle.quasigroup.specs.Division.{left_division}
 use Rattle.sheet.specs.declared.Places.{Places}
 use Rattle.sheet.specs.declared.Command.{Command}
 use Rattle.sheet.specs.declared.Command.TheVariants.{Lmul, Rmul, Ldiv, Rdiv, Swap, Flip, Kmul, Kdiv}
 use Rattle.sheet.specs.declared.Read.{Read}
 use Rattle.sheet.specs.Units.{units}
-use Rattle.sheet.specs.Read.{placeCount, size_of, got, twoPlaceCommand, onePlaceCommand, twoPlaces, onePlace, readAmong, readAt}
+use Rattle.sheet.specs.Read.{place_count, size_of, got, two_place_command, one_place_command, two_places, one_place, read_among, read_at}
 use Rattle.sheet.specs.Sheet.{Sound}
-use Rattle.sheet.specs.Enough.{PlanFrom, at-command, at-end}
-use Rattle.sheet.specs.Effect.{at, vectorAt, effect, undone}
+use Rattle.sheet.specs.Enough.{PlanFrom, at_command, at_end}
+use Rattle.sheet.specs.Effect.{at, vector_at, effect, undone}
 use Rattle.sheet.specs.Run.{turned}
 use Rattle.sheet.specs.Sound.{SoundPlaces, SoundCommand}
-use Rattle.sheet.proofs.Sound.{size-three}
-use Rattle.sheet.proofs.Scan.{read-end}
-use Rattle.inverse.specs.Encoding.{immediate, encoded, allEncoded, commandIn, commandsAt}
-use Rattle.inverse.proofs.Lists.{flat-none, flat-more}
-use Rattle.inverse.proofs.Encoding.{immediate-length}
+use Rattle.sheet.proofs.Sound.{size_three}
+use Rattle.sheet.proofs.Scan.{read_end}
+use Rattle.inverse.specs.Encoding.{immediate, encoded, all_encoded, command_in, commands_at}
+use Rattle.inverse.proofs.Lists.{flat_none, flat_more}
+use Rattle.inverse.proofs.Encoding.{immediate_length}
 
 -- ---- reading behind the bytes p
 
 module _ (w : ℕ) (p : List ℕ) where
-  read-two : (b : ℕ) → 1 ≤ b → b < 6 → (x : Places) (q : List ℕ)
-      → readAt w (p ++ (b ∷ x.d ∷ x.s ∷ q)) (length p) ≡ twoPlaces b x (length p + size_of w b)
-  unfolding readAmong
-  read-two b z l x q =
+  read_two : (b : ℕ) → 1 ≤ b → b < 6 → (x : Places) (q : List ℕ)
+      → read_at w (p ++ (b ∷ x.d ∷ x.s ∷ q)) (length p) ≡ two_places b x (length p + size_of w b)
+  unfolding read_among
+  read_two b z l x q =
       let r = b ∷ x.d ∷ x.s ∷ q in
-      let size : size_of w b ≡ 3 = size-three w b l in
+      let size : size_of w b ≡ 3 = size_three w b l in
       let long : length (p ++ r) ≡ length p + length r = length-append p r in
       rw (
         get_or-append_seam p b (x.d ∷ x.s ∷ q) 0,
@@ -51,8 +51,8 @@ module _ (w : ℕ) (p : List ℕ) where
       )
 
   read_one : (b : ℕ) → 6 ≤ b → b ≤ 8 → (d : ℕ) (q : List ℕ) → size_of w b ≤ 2 + length q
-      → readAt w (p ++ (b ∷ d ∷ q)) (length p) ≡ onePlace b d (length p + 2) (length p + size_of w b)
-  unfolding readAmong
+      → read_at w (p ++ (b ∷ d ∷ q)) (length p) ≡ one_place b d (length p + 2) (length p + size_of w b)
+  unfolding read_among
   read_one b z l d q fits =
       let r = b ∷ d ∷ q in
       let long : length (p ++ r) ≡ length p + length r = length-append p r in
@@ -66,11 +66,11 @@ module _ (w : ℕ) (p : List ℕ) where
         get_or-append-add p r 1 0,
       )
 
-two-sound : (b : ℕ) (x : Places) (next : ℕ) → SoundPlaces placeCount x → twoPlaces b x next ≡ got (twoPlaceCommand b x) next
-two-sound b x next h = rw (lt-leb placeCount x.d h.first, lt-leb placeCount x.s h.second, ne_eqb x.d x.s (λ e. h.apart (sym e)))
+two_sound : (b : ℕ) (x : Places) (next : ℕ) → SoundPlaces place_count x → two_places b x next ≡ got (two_place_command b x) next
+two_sound b x next h = rw (lt-leb place_count x.d h.first, lt-leb place_count x.s h.second, ne_eqb x.d x.s (λ e. h.apart (sym e)))
 
-one-sound : (b d k next : ℕ) → d < placeCount → onePlace b d k next ≡ got (onePlaceCommand b d k) next
-one-sound b d k next h = rw (lt-leb placeCount d h)
+one_sound : (b d k next : ℕ) → d < place_count → one_place b d k next ≡ got (one_place_command b d k) next
+one_sound b d k next h = rw (lt-leb place_count d h)
 
 -- ---- a command of the sheet s in another sheet t
 
@@ -86,11 +86,11 @@ relocated k (Kmul d j) = Kmul d k
 relocated k (Kdiv d j) = Kdiv d k
 
 -- K's words are those of its bytes
-immediate-words : (w : ℕ) (s : List ℕ) (k : ℕ) → vectorAt w (immediate w s k) 0 ≡ vectorAt w s k
-immediate-words w s k =
+immediate_words : (w : ℕ) (s : List ℕ) (k : ℕ) → vector_at w (immediate w s k) 0 ≡ vector_at w s k
+immediate_words w s k =
     let z : k + 0 ≡ k = omega arith in
     let eight : 0 + 8 * (w / 8) ≤ w = omega arith in
-    words_take (w / 8) 8 w (drop k s) 0 eight ∙ words-drop (w / 8) 8 k s 0 ∙ ap (vectorAt w s) z
+    words_take (w / 8) 8 w (drop k s) 0 eight ∙ words_drop (w / 8) 8 k s 0 ∙ ap (vector_at w s) z
 
 module _ (w : ℕ) (s t : List ℕ) where
   -- K, if the command has one, stands at offset k of t
@@ -104,14 +104,14 @@ module _ (w : ℕ) (s t : List ℕ) where
   ImmediateAt k (Kmul d j) = immediate w t k ≡ immediate w s j
   ImmediateAt k (Kdiv d j) = immediate w t k ≡ immediate w s j
 
-  same-words : (k j : ℕ) → immediate w t k ≡ immediate w s j → vectorAt w t k ≡ vectorAt w s j
-  same-words k j h = sym (immediate-words w t k) ∙ ap (λ (l : List ℕ). vectorAt w l 0) h ∙ immediate-words w s j
+  same_words_lem : (k j : ℕ) → immediate w t k ≡ immediate w s j → vector_at w t k ≡ vector_at w s j
+  same_words_lem k j h = sym (immediate_words w t k) ∙ ap (λ (l : List ℕ). vector_at w l 0) h ∙ immediate_words w s j
 
   multiplied : (d k j : ℕ) → immediate w t k ≡ immediate w s j → (v : List (List ℕ)) → effect w t (Kmul d k) v ≡ effect w s (Kmul d j) v
-  multiplied d k j h v = ap (λ (x : List ℕ). set v d (product (width_of w) x (at v d))) (same-words k j h)
+  multiplied d k j h v = ap (λ (x : List ℕ). set v d (product (width_of w) x (at v d))) (same_words_lem k j h)
 
   divided : (d k j : ℕ) → immediate w t k ≡ immediate w s j → (v : List (List ℕ)) → effect w t (Kdiv d k) v ≡ effect w s (Kdiv d j) v
-  divided d k j h v = ap (λ (x : List ℕ). set v d (leftDivision (width_of w) x (at v d))) (same-words k j h)
+  divided d k j h v = ap (λ (x : List ℕ). set v d (left_division (width_of w) x (at v d))) (same_words_lem k j h)
 
   -- the command a of t does what the command c of s does, forward and backward; the command that undoes it has the same bytes; and it has the same units
   pub record Alike (a c : Command) : Type 0 where
@@ -124,20 +124,20 @@ module _ (w : ℕ) (s t : List ℕ) where
   either_way a c f b Forward v = f v
   either_way a c f b Backward v = b v
 
-  relocated-alike : (k : ℕ) (c : Command) → ImmediateAt k c → Alike (relocated k c) c
-  relocated-alike k (Lmul p) h = record { effects = either_way (Lmul p) (Lmul p) (λ v. refl) (λ v. refl); bytes = refl; counted = refl }
-  relocated-alike k (Rmul p) h = record { effects = either_way (Rmul p) (Rmul p) (λ v. refl) (λ v. refl); bytes = refl; counted = refl }
-  relocated-alike k (Ldiv p) h = record { effects = either_way (Ldiv p) (Ldiv p) (λ v. refl) (λ v. refl); bytes = refl; counted = refl }
-  relocated-alike k (Rdiv p) h = record { effects = either_way (Rdiv p) (Rdiv p) (λ v. refl) (λ v. refl); bytes = refl; counted = refl }
-  relocated-alike k (Swap p) h = record { effects = either_way (Swap p) (Swap p) (λ v. refl) (λ v. refl); bytes = refl; counted = refl }
-  relocated-alike k (Flip d) h = record { effects = either_way (Flip d) (Flip d) (λ v. refl) (λ v. refl); bytes = refl; counted = refl }
-  relocated-alike k (Kmul d j) h =
+  relocated_alike : (k : ℕ) (c : Command) → ImmediateAt k c → Alike (relocated k c) c
+  relocated_alike k (Lmul p) h = record { effects = either_way (Lmul p) (Lmul p) (λ v. refl) (λ v. refl); bytes = refl; counted = refl }
+  relocated_alike k (Rmul p) h = record { effects = either_way (Rmul p) (Rmul p) (λ v. refl) (λ v. refl); bytes = refl; counted = refl }
+  relocated_alike k (Ldiv p) h = record { effects = either_way (Ldiv p) (Ldiv p) (λ v. refl) (λ v. refl); bytes = refl; counted = refl }
+  relocated_alike k (Rdiv p) h = record { effects = either_way (Rdiv p) (Rdiv p) (λ v. refl) (λ v. refl); bytes = refl; counted = refl }
+  relocated_alike k (Swap p) h = record { effects = either_way (Swap p) (Swap p) (λ v. refl) (λ v. refl); bytes = refl; counted = refl }
+  relocated_alike k (Flip d) h = record { effects = either_way (Flip d) (Flip d) (λ v. refl) (λ v. refl); bytes = refl; counted = refl }
+  relocated_alike k (Kmul d j) h =
       record {
         effects = either_way (Kmul d k) (Kmul d j) (multiplied d k j h) (divided d k j h);
         bytes = ap (λ (l : List ℕ). 8 ∷ d ∷ l) h;
         counted = refl;
       }
-  relocated-alike k (Kdiv d j) h =
+  relocated_alike k (Kdiv d j) h =
       record {
         effects = either_way (Kdiv d k) (Kdiv d j) (divided d k j h) (multiplied d k j h);
         bytes = ap (λ (l : List ℕ). 7 ∷ d ∷ l) h;
@@ -148,43 +148,43 @@ module _ (w : ℕ) (s t : List ℕ) where
 
 module _ (w : ℕ) (s p q : List ℕ) where
   -- K, behind an opcode and a place
-  immediate-stands : (b d k : ℕ) → k + w ≤ length s → immediate w (p ++ (b ∷ d ∷ (immediate w s k ++ q))) (length p + 2) ≡ immediate w s k
-  immediate-stands b d k h =
-      ap (take w) (drop-append-add p (b ∷ d ∷ (immediate w s k ++ q)) 2) ∙ take_at (immediate w s k) q w (immediate-length w s k h)
+  immediate_stands : (b d k : ℕ) → k + w ≤ length s → immediate w (p ++ (b ∷ d ∷ (immediate w s k ++ q))) (length p + 2) ≡ immediate w s k
+  immediate_stands b d k h =
+      ap (take w) (drop-append-add p (b ∷ d ∷ (immediate w s k ++ q)) 2) ∙ take_at (immediate w s k) q w (immediate_length w s k h)
 
-  immediate-fits : (k : ℕ) → k + w ≤ length s → w + 2 ≤ 2 + length (immediate w s k ++ q)
-  immediate-fits k h = omega (arith, length-append (immediate w s k) q, immediate-length w s k h)
+  immediate_fits : (k : ℕ) → k + w ≤ length s → w + 2 ≤ 2 + length (immediate w s k ++ q)
+  immediate_fits k h = omega (arith, length-append (immediate w s k) q, immediate_length w s k h)
 
   abbrev ReadBack : Command → Type 0
-  ReadBack c = readAt w (p ++ (encoded w s c ++ q)) (length p) ≡ got (relocated (length p + 2) c) (length p + length (encoded w s c))
+  ReadBack c = read_at w (p ++ (encoded w s c ++ q)) (length p) ≡ got (relocated (length p + 2) c) (length p + length (encoded w s c))
 
   read_back : (c : Command) → SoundCommand w (length s) c → ReadBack c
-  read_back (Lmul x) h = read-two w p 1 (omega arith) (omega arith) x q ∙ two-sound 1 x (length p + 3) h
-  read_back (Rmul x) h = read-two w p 2 (omega arith) (omega arith) x q ∙ two-sound 2 x (length p + 3) h
-  read_back (Ldiv x) h = read-two w p 3 (omega arith) (omega arith) x q ∙ two-sound 3 x (length p + 3) h
-  read_back (Rdiv x) h = read-two w p 4 (omega arith) (omega arith) x q ∙ two-sound 4 x (length p + 3) h
-  read_back (Swap x) h = read-two w p 5 (omega arith) (omega arith) x q ∙ two-sound 5 x (length p + 3) h
-  read_back (Flip d) h = read_one w p 6 (omega arith) (omega arith) d q (omega arith) ∙ one-sound 6 d (length p + 2) (length p + 2) h
+  read_back (Lmul x) h = read_two w p 1 (omega arith) (omega arith) x q ∙ two_sound 1 x (length p + 3) h
+  read_back (Rmul x) h = read_two w p 2 (omega arith) (omega arith) x q ∙ two_sound 2 x (length p + 3) h
+  read_back (Ldiv x) h = read_two w p 3 (omega arith) (omega arith) x q ∙ two_sound 3 x (length p + 3) h
+  read_back (Rdiv x) h = read_two w p 4 (omega arith) (omega arith) x q ∙ two_sound 4 x (length p + 3) h
+  read_back (Swap x) h = read_two w p 5 (omega arith) (omega arith) x q ∙ two_sound 5 x (length p + 3) h
+  read_back (Flip d) h = read_one w p 6 (omega arith) (omega arith) d q (omega arith) ∙ one_sound 6 d (length p + 2) (length p + 2) h
   read_back (Kmul d k) h =
-      let e : length p + (w + 2) ≡ length p + length (encoded w s (Kmul d k)) = omega (arith, immediate-length w s k h.within) in
-      read_one w p 7 (omega arith) (omega arith) d (immediate w s k ++ q) (immediate-fits k h.within)
-      ∙ one-sound 7 d (length p + 2) (length p + (w + 2)) h.place
+      let e : length p + (w + 2) ≡ length p + length (encoded w s (Kmul d k)) = omega (arith, immediate_length w s k h.within) in
+      read_one w p 7 (omega arith) (omega arith) d (immediate w s k ++ q) (immediate_fits k h.within)
+      ∙ one_sound 7 d (length p + 2) (length p + (w + 2)) h.place
       ∙ ap (got (Kmul d (length p + 2))) e
   read_back (Kdiv d k) h =
-      let e : length p + (w + 2) ≡ length p + length (encoded w s (Kdiv d k)) = omega (arith, immediate-length w s k h.within) in
-      read_one w p 8 (omega arith) (omega arith) d (immediate w s k ++ q) (immediate-fits k h.within)
-      ∙ one-sound 8 d (length p + 2) (length p + (w + 2)) h.place
+      let e : length p + (w + 2) ≡ length p + length (encoded w s (Kdiv d k)) = omega (arith, immediate_length w s k h.within) in
+      read_one w p 8 (omega arith) (omega arith) d (immediate w s k ++ q) (immediate_fits k h.within)
+      ∙ one_sound 8 d (length p + 2) (length p + (w + 2)) h.place
       ∙ ap (got (Kdiv d (length p + 2))) e
 
-  immediate-at : (c : Command) → SoundCommand w (length s) c → ImmediateAt w s (p ++ (encoded w s c ++ q)) (length p + 2) c
-  immediate-at (Lmul x) h = tt
-  immediate-at (Rmul x) h = tt
-  immediate-at (Ldiv x) h = tt
-  immediate-at (Rdiv x) h = tt
-  immediate-at (Swap x) h = tt
-  immediate-at (Flip d) h = tt
-  immediate-at (Kmul d k) h = immediate-stands 7 d k h.within
-  immediate-at (Kdiv d k) h = immediate-stands 8 d k h.within
+  immediate_at : (c : Command) → SoundCommand w (length s) c → ImmediateAt w s (p ++ (encoded w s c ++ q)) (length p + 2) c
+  immediate_at (Lmul x) h = tt
+  immediate_at (Rmul x) h = tt
+  immediate_at (Ldiv x) h = tt
+  immediate_at (Rdiv x) h = tt
+  immediate_at (Swap x) h = tt
+  immediate_at (Flip d) h = tt
+  immediate_at (Kmul d k) h = immediate_stands 7 d k h.within
+  immediate_at (Kdiv d k) h = immediate_stands 8 d k h.within
 
 -- ---- the bytes of commands of s, behind p
 
@@ -192,8 +192,8 @@ module _ (w : ℕ) (s : List ℕ) where
   -- the sheet t is read from offset i on as the commands l
   pub record ReadAs (t : List ℕ) (i : ℕ) (l : List Command) : Type 0 where
     pub offsets : List ℕ
-    pub plan : PlanFrom placeCount w t i (record { offsets = offsets; outcome = Sound })
-    pub commands : Forall₂ (Alike w s t) (commandsAt w t offsets) l
+    pub plan : PlanFrom place_count w t i (record { offsets = offsets; outcome = Sound })
+    pub commands : Forall₂ (Alike w s t) (commands_at w t offsets) l
 
   read_more : (p : List ℕ) (c : Command) (q : List ℕ) (l : List Command) → SoundCommand w (length s) c
       → ReadAs (p ++ (encoded w s c ++ q)) (length (p ++ encoded w s c)) l → ReadAs (p ++ (encoded w s c ++ q)) (length p) (c ∷ l)
@@ -202,24 +202,24 @@ module _ (w : ℕ) (s : List ℕ) where
       let t = p ++ (e ++ q) in
       let read = read_back w s p q c h in
       let on = rw (length-append p e) at rest.plan in
-      let f : commandsAt w t (length p ∷ rest.offsets) ≡ relocated (length p + 2) c ∷ commandsAt w t rest.offsets =
-      flat-more (λ i. commandIn (readAt w t i)) (length p) rest.offsets ∙ ap (λ (r : Read). commandIn r ++ commandsAt w t rest.offsets) read in
+      let f : commands_at w t (length p ∷ rest.offsets) ≡ relocated (length p + 2) c ∷ commands_at w t rest.offsets =
+      flat_more (λ i. command_in (read_at w t i)) (length p) rest.offsets ∙ ap (λ (r : Read). command_in r ++ commands_at w t rest.offsets) read in
       record {
         offsets = length p ∷ rest.offsets;
-        plan = at-command read on;
-        commands = rw f (Forall₂.cons (relocated-alike w s t (length p + 2) c (immediate-at w s p q c h)) rest.commands);
+        plan = at_command read on;
+        commands = rw f (Forall₂.cons (relocated_alike w s t (length p + 2) c (immediate_at w s p q c h)) rest.commands);
       }
 
-  pub read_as : {l : List Command} → Each (SoundCommand w (length s)) l → (p : List ℕ) → ReadAs (p ++ allEncoded w s l) (length p) l
+  pub read_as : {l : List Command} → Each (SoundCommand w (length s)) l → (p : List ℕ) → ReadAs (p ++ all_encoded w s l) (length p) l
   read_as none p =
-      let e : p ++ allEncoded w s [] ≡ p = ap (λ (r : List ℕ). p ++ r) (flat-none (encoded w s)) ∙ append-nil p in
+      let e : p ++ all_encoded w s [] ≡ p = ap (λ (r : List ℕ). p ++ r) (flat_none (encoded w s)) ∙ append-nil p in
       record {
         offsets = [];
-        plan = at-end (read-end placeCount w (p ++ allEncoded w s []) (length p) (omega (arith, ap length e)));
-        commands = rw (flat-none (λ i. commandIn (readAt w (p ++ allEncoded w s []) i))) Forall₂.nil;
+        plan = at_end (read_end place_count w (p ++ all_encoded w s []) (length p) (omega (arith, ap length e)));
+        commands = rw (flat_none (λ i. command_in (read_at w (p ++ all_encoded w s []) i))) Forall₂.nil;
       }
   read_as (more {a = c} {l} h k) p =
       let e = encoded w s c in
-      let q = allEncoded w s l in
+      let q = all_encoded w s l in
       let rest = subst (λ (t : List ℕ). ReadAs t (length (p ++ e)) l) (append_assoc p e q) (read_as k (p ++ e)) in
-      subst (λ (r : List ℕ). ReadAs (p ++ r) (length p) (c ∷ l)) (sym (flat-more (encoded w s) c l)) (read_more p c q l h rest)
+      subst (λ (r : List ℕ). ReadAs (p ++ r) (length p) (c ∷ l)) (sym (flat_more (encoded w s) c l)) (read_more p c q l h rest)

@@ -6,7 +6,7 @@ use Rattle.sheet.specs.declared.Command.TheVariants.{Lmul, Rmul, Ldiv, Rdiv, Swa
 use Rattle.sheet.specs.declared.Decoded.{Decoded}
 use Rattle.sheet.specs.declared.Read.{Read}
 use Rattle.sheet.specs.declared.Read.TheVariants.{Got, Fault, End}
-use Rattle.sheet.specs.Read.{readAt}
+use Rattle.sheet.specs.Read.{read_at}
 use Rattle.sheet.specs.Sheet.{Sound, plan_of}
 
 -- the w bytes from offset k of the sheet s on: of the vector K, the immediate operand of a command
@@ -25,22 +25,22 @@ encoded w s (Kmul d k) = 7 ∷ d ∷ immediate w s k
 encoded w s (Kdiv d k) = 8 ∷ d ∷ immediate w s k
 
 -- commands of the sheet s in bytes, one after the other
-abbrev pub allEncoded : ℕ → List ℕ → List Command → List ℕ
-allEncoded w s l = flat_map (encoded w s) l
+abbrev pub all_encoded : ℕ → List ℕ → List Command → List ℕ
+all_encoded w s l = flat_map (encoded w s) l
 
 -- the command that was read, if one was
-abbrev pub commandIn : Read → List Command
-commandIn (Got d) = d.command ∷ []
-commandIn (Fault r) = []
-commandIn End = []
+abbrev pub command_in : Read → List Command
+command_in (Got d) = d.command ∷ []
+command_in (Fault r) = []
+command_in End = []
 
 -- the commands at the offsets
-abbrev pub commandsAt : ℕ → List ℕ → List ℕ → List Command
-commandsAt w s l = flat_map (λ i. commandIn (readAt w s i)) l
+abbrev pub commands_at : ℕ → List ℕ → List ℕ → List Command
+commands_at w s l = flat_map (λ i. command_in (read_at w s i)) l
 
 -- a sheet's commands, up to its end or its first fault
-abbrev pub commandsOf : ℕ → List ℕ → List Command
-commandsOf w s = commandsAt w s (plan_of w s).offsets
+abbrev pub commands_of : ℕ → List ℕ → List Command
+commands_of w s = commands_at w s (plan_of w s).offsets
 
 -- a sheet is accepted at width w if it has none of the faults 7 to 11
 abbrev pub Accepted : ℕ → List ℕ → Type 0
@@ -49,7 +49,7 @@ Accepted w s = (plan_of w s).outcome ≡ Sound
 -- That these are the bytes which reading reads: at an offset where a command stands, the sheet goes on with that command's bytes and then with what stands
 -- behind it; and an accepted sheet is its commands' bytes. proofs/Encoding.antt shows both.
 abbrev pub ReadingDecodes : Type 0
-ReadingDecodes = (w : ℕ) (s : List ℕ) (i : ℕ) (d : Decoded) → readAt w s i ≡ Got d → encoded w s d.command ++ drop d.next s ≡ drop i s
+ReadingDecodes = (w : ℕ) (s : List ℕ) (i : ℕ) (d : Decoded) → read_at w s i ≡ Got d → encoded w s d.command ++ drop d.next s ≡ drop i s
 
 abbrev pub SheetsEncoded : Type 0
-SheetsEncoded = (w : ℕ) (s : List ℕ) → Accepted w s → allEncoded w s (commandsOf w s) ≡ s
+SheetsEncoded = (w : ℕ) (s : List ℕ) → Accepted w s → all_encoded w s (commands_of w s) ≡ s

@@ -5,25 +5,25 @@ use Rattle.answer.specs.declared.Answer.TheVariants.{Done}
 use Rattle.answer.specs.declared.Refusal.TheVariants.{Output}
 use Rattle.answer.specs.Refuse.{unless, outcome}
 use Rattle.sheet.specs.Effect.{undone}
-use Rattle.sheet.specs.SheetAnswer.{sheetAnswer}
-use Rattle.inverse.specs.Encoding.{allEncoded, commandsOf}
+use Rattle.sheet.specs.SheetAnswer.{sheet_answer}
+use Rattle.inverse.specs.Encoding.{all_encoded, commands_of}
 
 -- the undoing commands, last one first, each with the places and the K of the command that it undoes
-abbrev pub inverseSheet : ℕ → List ℕ → List ℕ
-inverseSheet w s = allEncoded w s (reverse (map undone (commandsOf w s)))
+abbrev pub inverse_sheet : ℕ → List ℕ → List ℕ
+inverse_sheet w s = all_encoded w s (reverse (map undone (commands_of w s)))
 
 -- the output with the inverse sheet in its first bytes, and the bytes behind it as they were
-abbrev pub inverseWritten : ℕ → List ℕ → List ℕ → List ℕ
-inverseWritten w s out = inverseSheet w s ++ drop (length s) out
+abbrev pub inverse_written : ℕ → List ℕ → List ℕ → List ℕ
+inverse_written w s out = inverse_sheet w s ++ drop (length s) out
 
 -- 4, the output's n bytes are fewer than the sheet's m; or m
-abbrev pub roomAnswer : ℕ → ℕ → Answer
-roomAnswer m n = unless (leb m n) Output (Done m)
+abbrev pub room_answer : ℕ → ℕ → Answer
+room_answer m n = unless (leb m n) Output (Done m)
 
 -- The call's answer: 5; 7 to 11 as for a run; 4; or the sheet's length
-abbrev pub inverseAnswer : ℕ → List ℕ → List ℕ → Answer
-inverseAnswer w s out = sheetAnswer w true s (roomAnswer (length s) (length out))
+abbrev pub inverse_answer : ℕ → List ℕ → List ℕ → Answer
+inverse_answer w s out = sheet_answer w true s (room_answer (length s) (length out))
 
 -- .. and the output afterwards; a refused call changes no byte
-abbrev pub inverseOut : ℕ → List ℕ → List ℕ → List ℕ
-inverseOut w s out = outcome (inverseAnswer w s out) (inverseWritten w s out) out
+abbrev pub inverse_out : ℕ → List ℕ → List ℕ → List ℕ
+inverse_out w s out = outcome (inverse_answer w s out) (inverse_written w s out) out

@@ -1,16 +1,16 @@
 // The inverse sheet of a load sheet, which document 02 calls the sheet that goes home.
 ghost use Rattle.std.specs.Prelude.{◌≡◌, true, ◌≤◌, length};
 ghost use Rattle.answer.specs.declared.Answer.TheVariants.{Done};
-ghost use Rattle.sheet.specs.SheetAnswer.{sheetAnswer};
+ghost use Rattle.sheet.specs.SheetAnswer.{sheet_answer};
 ghost use Rattle.inverse.specs.Encoding.{Accepted};
-ghost use Rattle.inverse.specs.Inverse.{inverseWritten, roomAnswer, inverseAnswer, inverseOut};
+ghost use Rattle.inverse.specs.Inverse.{inverse_written, room_answer, inverse_answer, inverse_out};
 
 use answer::{Answer, Refusal};
 use sheet::{Read, Summary};
 
 // What the tests of width and sheet answer: a refusal as a run has it, or the sheet's length.
 fn sheet_answer(width: u32, sheet: &[u8]) -> Answer
-    ensures { let s = sheet.now in result ≡ sheetAnswer width true s (Done (length s)) }
+    ensures { let s = sheet.now in result ≡ sheet_answer width true s (Done (length s)) }
 {
     if !operands::known_width(width) {
         return Answer::Refused(Refusal::Width, 0);
@@ -24,7 +24,7 @@ fn sheet_answer(width: u32, sheet: &[u8]) -> Answer
 
 // What the test of the output's room answers, for a sheet of `size` bytes.
 fn room_answer(size: usize, room: usize) -> Answer
-    ensures { result ≡ roomAnswer size room }
+    ensures { result ≡ room_answer size room }
 {
     if room < size {
         return Answer::Refused(Refusal::Output, 0);
@@ -36,7 +36,7 @@ fn room_answer(size: usize, room: usize) -> Answer
 // read once, from its start on, and no offsets are remembered.
 fn write_inverse(width: u32, sheet: &[u8], out: &mut [u8])
     requires { Accepted width sheet.now × (length sheet.now ≤ length out.old) }
-    ensures { out.new ≡ inverseWritten width sheet.now out.old }
+    ensures { out.new ≡ inverse_written width sheet.now out.old }
 {
     let mut at = 0;
     loop {
@@ -56,8 +56,8 @@ fn write_inverse(width: u32, sheet: &[u8], out: &mut [u8])
 
 // The inverse sheet, to the start of `out`; what stands behind it in `out` stays. The sheet's faults come before the output's room.
 pub fn inverse_sheet(width: u32, sheet: &[u8], out: &mut [u8]) -> Answer
-    ensures value { result ≡ inverseAnswer width sheet.now out.old }
-    ensures out_after { out.new ≡ inverseOut width sheet.now out.old }
+    ensures value { result ≡ inverse_answer width sheet.now out.old }
+    ensures out_after { out.new ≡ inverse_out width sheet.now out.old }
 {
     let found = sheet_answer(width, sheet);
     let room = room_answer(sheet.len(), out.len());

@@ -21,6 +21,6 @@ abbrev pub Returns : {C S : Type 0} → (C → C) → (C → S → S) → List C
 Returns exchanged after l s = stepped after (reversal exchanged l) (stepped after l s) ≡ s
 
 -- .. and each call on it answers what it answered on the way out
-pub record RoundTrip {C S A : Type 0} (exchanged : C → C) (after : C → S → S) (answerTo : C → S → A) (l : List C) (s : S) : Type 0 where
+pub record RoundTrip {C S A : Type 0} (exchanged : C → C) (after : C → S → S) (answer_to : C → S → A) (l : List C) (s : S) : Type 0 where
   pub state : Returns exchanged after l s
-  pub same : outputs after answerTo (reversal exchanged l) (stepped after l s) ≡ reverse (outputs after answerTo l s)
+  pub same : outputs after answer_to (reversal exchanged l) (stepped after l s) ≡ reverse (outputs after answer_to l s)

@@ -1,14 +1,14 @@
 // A block forward and back on a pipe in lent bytes, for a width given as a number: each call tests its arguments and refuses by number.
 ghost use Rattle.std.specs.Prelude.{◌≡◌};
 ghost use Rattle.invertible.specs.RoundTrip.{Forward, Backward};
-ghost use Rattle.pipe.specs.Call.{stepAnswer, stepBytes};
+ghost use Rattle.pipe.specs.Call.{step_answer, step_bytes};
 
 use answer::Answer;
 
 // The pipe after the block, in its place.
 pub fn forward(width: u32, pipe: &mut [u8], block: &[u8]) -> Answer
-    ensures value { result ≡ stepAnswer width block.now pipe.old }
-    ensures pipe_after { pipe.new ≡ stepBytes Forward width block.now pipe.old }
+    ensures value { result ≡ step_answer width block.now pipe.old }
+    ensures pipe_after { pipe.new ≡ step_bytes Forward width block.now pipe.old }
 {
     let r = operands::step::answer_for(width, pipe, block);
     if !answer::is_done(r) {
@@ -24,8 +24,8 @@ pub fn forward(width: u32, pipe: &mut [u8], block: &[u8]) -> Answer
 
 // The pipe before the block, in its place.
 pub fn backward(width: u32, pipe: &mut [u8], block: &[u8]) -> Answer
-    ensures value { result ≡ stepAnswer width block.now pipe.old }
-    ensures pipe_after { pipe.new ≡ stepBytes Backward width block.now pipe.old }
+    ensures value { result ≡ step_answer width block.now pipe.old }
+    ensures pipe_after { pipe.new ≡ step_bytes Backward width block.now pipe.old }
 {
     let r = operands::step::answer_for(width, pipe, block);
     if !answer::is_done(r) {

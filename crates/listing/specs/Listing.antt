@@ -6,7 +6,7 @@ use Rattle.sheet.specs.declared.Command.{Command}
 use Rattle.sheet.specs.declared.Command.TheVariants.{Lmul, Rmul, Ldiv, Rdiv, Swap, Flip, Kmul, Kdiv}
 use Rattle.sheet.specs.declared.Read.{Read}
 use Rattle.sheet.specs.declared.Read.TheVariants.{Got, Fault, End}
-use Rattle.sheet.specs.Read.{readAt}
+use Rattle.sheet.specs.Read.{read_at}
 use Rattle.sheet.specs.Sheet.{Outcome, Sound, Faulty, plan_of}
 use Rattle.text.specs.Decimal.{decimal, spaced}
 use Rattle.text.specs.Label.{labelled, refused}
@@ -48,20 +48,20 @@ line_of i End = []
 -- the lines of the commands at the offsets
 abbrev pub lines : ℕ → List ℕ → List ℕ → List ℕ
 lines w s [] = []
-lines w s (i ∷ l) = line_of i (readAt w s i) ++ lines w s l
+lines w s (i ∷ l) = line_of i (read_at w s i) ++ lines w s l
 
 -- end, the sheet's length, the number of commands
-abbrev pub endLine : ℕ → ℕ → List ℕ
-endLine n count = labelled (101 ∷ 110 ∷ 100 ∷ []) n ++ (spaced count ++ (10 ∷ []))
+abbrev pub end_line : ℕ → ℕ → List ℕ
+end_line n count = labelled (101 ∷ 110 ∷ 100 ∷ []) n ++ (spaced count ++ (10 ∷ []))
 
 -- refused, the refusal's number, its offset
-abbrev pub refusedLine : Refusal → ℕ → List ℕ
-refusedLine r i = refused r ++ (spaced i ++ (10 ∷ []))
+abbrev pub refused_line : Refusal → ℕ → List ℕ
+refused_line r i = refused r ++ (spaced i ++ (10 ∷ []))
 
 -- a sheet s at width w, with the offsets l of its commands
 abbrev pub listed : ℕ → List ℕ → List ℕ → Outcome → List ℕ
-listed w s l Sound = lines w s l ++ endLine (length s) (length l)
-listed w s l (Faulty r i) = refusedLine r i
+listed w s l Sound = lines w s l ++ end_line (length s) (length l)
+listed w s l (Faulty r i) = refused_line r i
 
 abbrev pub listing : ℕ → List ℕ → List ℕ
 listing w s = let p = plan_of w s in listed w s p.offsets p.outcome

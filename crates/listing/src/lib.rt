@@ -1,8 +1,8 @@
 // What the lister prints for a sheet.
 ghost use Rattle.std.specs.Prelude.{◌≡◌, ◌∷◌, ◌+◌, ◌<◌, ◌≤◌, length};
 ghost use Rattle.std.proofs.lemmas.List.Edits.{sets};
-ghost use Rattle.sheet.specs.Sheet.{scanFrom};
-ghost use Rattle.listing.specs.Listing.{both, line, lines, endLine, refusedLine, listing};
+ghost use Rattle.sheet.specs.Sheet.{scan_from};
+ghost use Rattle.listing.specs.Listing.{both, line, lines, end_line, refused_line, listing};
 ghost use Rattle.listing.specs.Listing.{name as name_of};
 ghost use Rattle.listing.specs.Listing.{places as places_of};
 ghost use Rattle.text.specs.Pushed.{Pushed};
@@ -84,7 +84,7 @@ fn push_line(out: &mut [u8], at: usize, offset: usize, c: Command) -> usize
 // The lines of a sheet's commands, up to its end or its first fault.
 fn push_lines(width: u32, sheet: &[u8], out: &mut [u8]) -> usize
     requires { length sheet.now ≤ 4096 }
-    ensures fact { let s = sheet.now in Pushed out.old 0 (lines width s (scanFrom (length s) width s 0).offsets) out.new result }
+    ensures fact { let s = sheet.now in Pushed out.old 0 (lines width s (scan_from (length s) width s 0).offsets) out.new result }
     ensures upper_bound { result ≤ 139264 }
 {
     let mut next = 0;
@@ -105,7 +105,7 @@ fn push_lines(width: u32, sheet: &[u8], out: &mut [u8]) -> usize
 // The last line of a listing: `size` is the sheet's length in bytes, `count` the number of its commands.
 fn push_end(out: &mut [u8], at: usize, size: usize, count: usize) -> usize
     requires { at < 700000 }
-    ensures pushed { Pushed out.old at (endLine size count) out.new result }
+    ensures pushed { Pushed out.old at (end_line size count) out.new result }
     ensures upper_bound { result ≤ at + 64 }
 {
     let text = [b'e', b'n', b'd'];
@@ -116,7 +116,7 @@ fn push_end(out: &mut [u8], at: usize, size: usize, count: usize) -> usize
 
 // The line of a refused sheet.
 fn push_refused(out: &mut [u8], r: Refusal, offset: u32) -> usize
-    ensures pushed { Pushed out.old 0 (refusedLine r offset) out.new result }
+    ensures pushed { Pushed out.old 0 (refused_line r offset) out.new result }
     ensures upper_bound { result ≤ 64 }
 {
     let first = text::push_refused(out, r);

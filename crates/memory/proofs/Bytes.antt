@@ -8,12 +8,12 @@ use native.Mathlib.Omega.{arith}
 use lib.Arith.{mod-mul}
 use lib.ListN.{length, get_or, set, take, drop, length-append}
 use lib.Seq.{sets, drop-cons, take-add, drop-drop, get_or_at, get_or-take, get_or-drop}
-use Rattle.memory.proofs.Lists.{fromAt, spread, front}
-use Rattle.memory.specs.Bytes.{word_at, wordsAt, bytes, bytes_of, Bytes}
+use Rattle.memory.proofs.Lists.{from_at, spread, front}
+use Rattle.memory.specs.Bytes.{word_at, words_at, bytes, bytes_of, Bytes}
 
 -- an element that was read as a byte is one
-pub byte-read : {x y : ℕ} → (x ≡ y) × (x < 256) → y < 256
-byte-read p = rw p.0 at p.1
+pub byte_read : {x y : ℕ} → (x ≡ y) × (x < 256) → y < 256
+byte_read p = rw p.0 at p.1
 
 -- k elements from place i on are bytes
 abbrev pub BytesAt : ℕ → List ℕ → ℕ → Type 0
@@ -21,9 +21,9 @@ BytesAt zero s i = Unit {0}
 BytesAt (suc k) s i = (get_or s i 0 < 256) × BytesAt k s (i + 1)
 
 -- the bytes of the word at i are the bytes there
-word-loaded : (s : List ℕ) (k i : ℕ) → BytesAt k s i → i + k ≤ length s → bytes k (word_at k s i) ≡ take k (drop i s)
-word-loaded s zero i small h = refl
-word-loaded s (suc k) i small h =
+word_loaded : (s : List ℕ) (k i : ℕ) → BytesAt k s i → i + k ≤ length s → bytes k (word_at k s i) ≡ take k (drop i s)
+word_loaded s zero i small h = refl
+word_loaded s (suc k) i small h =
     let b = get_or s i 0 in
     let lt : b < 256 = small.0 in
     let w = word_at k s (i + 1) in
@@ -31,12 +31,12 @@ word-loaded s (suc k) i small h =
     let d : (b + 256 * w) / 256 ≡ w = omega arith in
     let r : i + 1 + k ≤ length s = omega arith in
     let n : i < length s = omega arith in
-    ap (λ (x : ℕ). x ∷ bytes k ((b + 256 * w) / 256)) m ∙ ap (λ (x : ℕ). b ∷ bytes k x) d ∙ ap (λ (l : List ℕ). b ∷ l) (word-loaded s k (i + 1) small.1 r)
+    ap (λ (x : ℕ). x ∷ bytes k ((b + 256 * w) / 256)) m ∙ ap (λ (x : ℕ). b ∷ bytes k x) d ∙ ap (λ (l : List ℕ). b ∷ l) (word_loaded s k (i + 1) small.1 r)
     ∙ ap (λ (j : ℕ). b ∷ take k (drop j s)) (add-one i) ∙ ap (take (suc k)) (sym (drop-cons s i 0 n))
 
 pub loaded : (s : List ℕ) (k i : ℕ) {r : ℕ} → r ≡ word_at k s i → BytesAt k s i → i + k ≤ length s
     → (r ≡ word_at k s i) × (bytes k r ≡ take k (drop i s))
-loaded s k i e small h = (e, ap (bytes k) e ∙ word-loaded s k i small h)
+loaded s k i e small h = (e, ap (bytes k) e ∙ word_loaded s k i small h)
 
 module _ (s : List ℕ) (small : Bytes s) where
   -- a word of k bytes is below 256^k
@@ -44,51 +44,51 @@ module _ (s : List ℕ) (small : Bytes s) where
   word_below zero i = omega arith
   word_below (suc k) i = omega (arith, small i, word_below k (i + 1))
 
-  pub words-below : (k n i j : ℕ) → get_or (wordsAt k n s i) j 0 < 256 ^ k
-  words-below k zero i j = one-le-pow k 256 (omega arith)
-  words-below k (suc n) i zero = word_below k i
-  words-below k (suc n) i (suc j) = words-below k n (i + k) j
+  pub words_below : (k n i j : ℕ) → get_or (words_at k n s i) j 0 < 256 ^ k
+  words_below k zero i j = one-le-pow k 256 (omega arith)
+  words_below k (suc n) i zero = word_below k i
+  words_below k (suc n) i (suc j) = words_below k n (i + k) j
 
-  bytes-at : (k i : ℕ) → BytesAt k s i
-  bytes-at zero i = tt
-  bytes-at (suc k) i = (small i, bytes-at k (i + 1))
+  bytes_at : (k i : ℕ) → BytesAt k s i
+  bytes_at zero i = tt
+  bytes_at (suc k) i = (small i, bytes_at k (i + 1))
 
   pub bytes_word : (k i : ℕ) → i + k ≤ length s → bytes k (word_at k s i) ≡ take k (drop i s)
-  bytes_word k i h = word-loaded s k i (bytes-at k i) h
+  bytes_word k i h = word_loaded s k i (bytes_at k i) h
 
   -- the bytes of the words from i are the bytes there
-  pub bytes-words : (k n i : ℕ) → i + n * k ≤ length s → bytes_of k (wordsAt k n s i) ≡ take (n * k) (drop i s)
-  bytes-words k zero i h = rw (zero-mul k)
-  bytes-words k (suc n) i h =
+  pub bytes_words : (k n i : ℕ) → i + n * k ≤ length s → bytes_of k (words_at k n s i) ≡ take (n * k) (drop i s)
+  bytes_words k zero i h = rw (zero-mul k)
+  bytes_words k (suc n) i h =
       let e : suc n * k ≡ k + n * k = suc-mul n k ∙ omega arith in
       let r : i + k + n * k ≤ length s = omega arith in
-      ap (λ (l : List ℕ). l ++ bytes_of k (wordsAt k n s (i + k))) (bytes_word k i (omega arith))
-      ∙ ap (λ (l : List ℕ). take k (drop i s) ++ l) (bytes-words k n (i + k) r ∙ ap (take (n * k)) (sym (drop-drop k i s)))
+      ap (λ (l : List ℕ). l ++ bytes_of k (words_at k n s (i + k))) (bytes_word k i (omega arith))
+      ∙ ap (λ (l : List ℕ). take k (drop i s) ++ l) (bytes_words k n (i + k) r ∙ ap (take (n * k)) (sym (drop-drop k i s)))
       ∙ sym (take-add k (n * k) (drop i s)) ∙ ap (λ (j : ℕ). take j (drop i s)) (sym e)
 
 -- ---- the words from i on: their number, each by itself, and in two parts
 
-pub words-length : (k n : ℕ) (s : List ℕ) (i : ℕ) → length (wordsAt k n s i) ≡ n
-words-length k zero s i = refl
-words-length k (suc n) s i = ap suc (words-length k n s (i + k))
+pub words_length : (k n : ℕ) (s : List ℕ) (i : ℕ) → length (words_at k n s i) ≡ n
+words_length k zero s i = refl
+words_length k (suc n) s i = ap suc (words_length k n s (i + k))
 
-pub words-get : (k n : ℕ) (s : List ℕ) (i j : ℕ) → j < n → get_or (wordsAt k n s i) j 0 ≡ word_at k s (i + j * k)
-words-get k zero s i j h = absurd (omega arith)
-words-get k (suc n) s i zero h = let e : i ≡ i + 0 * k = omega (arith, zero-mul k) in ap (word_at k s) e
-words-get k (suc n) s i (suc j) h =
+pub words_get : (k n : ℕ) (s : List ℕ) (i j : ℕ) → j < n → get_or (words_at k n s i) j 0 ≡ word_at k s (i + j * k)
+words_get k zero s i j h = absurd (omega arith)
+words_get k (suc n) s i zero h = let e : i ≡ i + 0 * k = omega (arith, zero-mul k) in ap (word_at k s) e
+words_get k (suc n) s i (suc j) h =
     let e : i + k + j * k ≡ i + suc j * k = omega (arith, suc-mul j k) in
-    words-get k n s (i + k) j (omega arith) ∙ ap (word_at k s) e
+    words_get k n s (i + k) j (omega arith) ∙ ap (word_at k s) e
 
-pub words_append : (k m n : ℕ) (s : List ℕ) (i : ℕ) → wordsAt k (m + n) s i ≡ wordsAt k m s i ++ wordsAt k n s (i + m * k)
+pub words_append : (k m n : ℕ) (s : List ℕ) (i : ℕ) → words_at k (m + n) s i ≡ words_at k m s i ++ words_at k n s (i + m * k)
 words_append k zero n s i =
     let a : 0 + n ≡ n = omega arith in
     let b : i ≡ i + 0 * k = omega (arith, zero-mul k) in
-    ap (λ (m : ℕ). wordsAt k m s i) a ∙ ap (wordsAt k n s) b
+    ap (λ (m : ℕ). words_at k m s i) a ∙ ap (words_at k n s) b
 words_append k (suc m) n s i =
     let a : suc m + n ≡ suc (m + n) = omega arith in
     let b : i + k + m * k ≡ i + suc m * k = omega (arith, suc-mul m k) in
-    ap (λ (m : ℕ). wordsAt k m s i) a
-    ∙ ap (λ (l : List ℕ). wordsAt k 1 s i ++ l) (words_append k m n s (i + k) ∙ ap (λ (j : ℕ). wordsAt k m s (i + k) ++ wordsAt k n s j) b)
+    ap (λ (m : ℕ). words_at k m s i) a
+    ∙ ap (λ (l : List ℕ). words_at k 1 s i ++ l) (words_append k m n s (i + k) ∙ ap (λ (j : ℕ). words_at k m s (i + k) ++ words_at k n s j) b)
 
 -- the word in the bytes of x is x, reduced
 pub word_bytes : (k x : ℕ) (p q : List ℕ) (i : ℕ) → length p ≡ i → word_at k (p ++ (bytes k x ++ q)) i ≡ x % 256 ^ k
@@ -102,89 +102,89 @@ word_bytes (suc k) x p q i e =
     ap (λ (n : ℕ). n + 256 * word_at k (p ++ (x % 256 ∷ t)) (i + 1)) g ∙ ap (λ (n : ℕ). x % 256 + 256 * n) w
     ∙ sym (ap (λ (n : ℕ). x % n) (pow-suc 256 k) ∙ mod-mul x (one-le-pow k 256 (omega arith)) (omega arith) ∙ omega arith)
 
-pub length-bytes : (k x : ℕ) → length (bytes k x) ≡ k
-length-bytes zero x = refl
-length-bytes (suc k) x = ap suc (length-bytes k (x / 256))
+pub length_bytes : (k x : ℕ) → length (bytes k x) ≡ k
+length_bytes zero x = refl
+length_bytes (suc k) x = ap suc (length_bytes k (x / 256))
 
-pub length-bytesOf : (k : ℕ) (v : List ℕ) → length (bytes_of k v) ≡ length v * k
-length-bytesOf k [] = sym (zero-mul k)
-length-bytesOf k (x ∷ v) = length-append (bytes k x) (bytes_of k v) ∙ ap₂ ◌+◌ (length-bytes k x) (length-bytesOf k v) ∙ omega (arith, suc-mul (length v) k)
+pub length-bytes_of : (k : ℕ) (v : List ℕ) → length (bytes_of k v) ≡ length v * k
+length-bytes_of k [] = sym (zero-mul k)
+length-bytes_of k (x ∷ v) = length-append (bytes k x) (bytes_of k v) ∙ ap₂ ◌+◌ (length_bytes k x) (length-bytes_of k v) ∙ omega (arith, suc-mul (length v) k)
 
-pub bytesOf-append : (k : ℕ) (u v : List ℕ) → bytes_of k (u ++ v) ≡ bytes_of k u ++ bytes_of k v
-bytesOf-append k [] v = refl
-bytesOf-append k (x ∷ u) v = ap (λ (l : List ℕ). bytes k x ++ l) (bytesOf-append k u v) ∙ sym (append_assoc (bytes k x) (bytes_of k u) (bytes_of k v))
+pub bytes_of-append : (k : ℕ) (u v : List ℕ) → bytes_of k (u ++ v) ≡ bytes_of k u ++ bytes_of k v
+bytes_of-append k [] v = refl
+bytes_of-append k (x ∷ u) v = ap (λ (l : List ℕ). bytes k x ++ l) (bytes_of-append k u v) ∙ sym (append_assoc (bytes k x) (bytes_of k u) (bytes_of k v))
 
 -- ---- what words are written as are bytes
 
 pub no_bytes : Bytes []
 no_bytes i = omega arith
 
-pub cons-bytes : (x : ℕ) (l : List ℕ) → x < 256 → Bytes l → Bytes (x ∷ l)
-cons-bytes x l h k zero = h
-cons-bytes x l h k (suc i) = k i
+pub cons_bytes : (x : ℕ) (l : List ℕ) → x < 256 → Bytes l → Bytes (x ∷ l)
+cons_bytes x l h k zero = h
+cons_bytes x l h k (suc i) = k i
 
-pub append-bytes : (a b : List ℕ) → Bytes a → Bytes b → Bytes (a ++ b)
-append-bytes [] b f g i = g i
-append-bytes (x ∷ a) b f g zero = f 0
-append-bytes (x ∷ a) b f g (suc i) = append-bytes a b (λ j. f (suc j)) g i
+pub append_bytes : (a b : List ℕ) → Bytes a → Bytes b → Bytes (a ++ b)
+append_bytes [] b f g i = g i
+append_bytes (x ∷ a) b f g zero = f 0
+append_bytes (x ∷ a) b f g (suc i) = append_bytes a b (λ j. f (suc j)) g i
 
-pub bytes-are : (k x : ℕ) → Bytes (bytes k x)
-bytes-are zero x i = omega arith
-bytes-are (suc k) x zero = mod-lt x (omega arith)
-bytes-are (suc k) x (suc i) = bytes-are k (x / 256) i
+pub bytes_are : (k x : ℕ) → Bytes (bytes k x)
+bytes_are zero x i = omega arith
+bytes_are (suc k) x zero = mod-lt x (omega arith)
+bytes_are (suc k) x (suc i) = bytes_are k (x / 256) i
 
-pub bytesOf-are : (k : ℕ) (v : List ℕ) → Bytes (bytes_of k v)
-bytesOf-are k [] i = omega arith
-bytesOf-are k (x ∷ v) i = append-bytes (bytes k x) (bytes_of k v) (bytes-are k x) (bytesOf-are k v) i
+pub bytes_of-are : (k : ℕ) (v : List ℕ) → Bytes (bytes_of k v)
+bytes_of-are k [] i = omega arith
+bytes_of-are k (x ∷ v) i = append_bytes (bytes k x) (bytes_of k v) (bytes_are k x) (bytes_of-are k v) i
 
 -- ---- parts of bytes are bytes
 
-pub take-bytes : (n : ℕ) (s : List ℕ) → Bytes s → Bytes (take n s)
-take-bytes zero s b i = omega arith
-take-bytes (suc n) [] b i = omega arith
-take-bytes (suc n) (x ∷ s) b zero = b 0
-take-bytes (suc n) (x ∷ s) b (suc i) = take-bytes n s (λ j. b (suc j)) i
+pub take_bytes : (n : ℕ) (s : List ℕ) → Bytes s → Bytes (take n s)
+take_bytes zero s b i = omega arith
+take_bytes (suc n) [] b i = omega arith
+take_bytes (suc n) (x ∷ s) b zero = b 0
+take_bytes (suc n) (x ∷ s) b (suc i) = take_bytes n s (λ j. b (suc j)) i
 
-pub drop-bytes : (n : ℕ) (s : List ℕ) → Bytes s → Bytes (drop n s)
-drop-bytes n s b i = rw (get_or-drop n s i 0) (b (n + i))
+pub drop_bytes : (n : ℕ) (s : List ℕ) → Bytes s → Bytes (drop n s)
+drop_bytes n s b i = rw (get_or-drop n s i 0) (b (n + i))
 
 -- ---- words in the part of s that starts at j
 
-pub word-drop : (k j : ℕ) (s : List ℕ) (i : ℕ) → word_at k (drop j s) i ≡ word_at k s (j + i)
-word-drop zero j s i = refl
-word-drop (suc k) j s i =
-    ap₂ {C = ℕ} (λ x y. x + 256 * y) (get_or-drop j s i 0) (word-drop k j s (i + 1) ∙ ap (word_at k s) (sym (add_assoc j i 1)))
+pub word_drop : (k j : ℕ) (s : List ℕ) (i : ℕ) → word_at k (drop j s) i ≡ word_at k s (j + i)
+word_drop zero j s i = refl
+word_drop (suc k) j s i =
+    ap₂ {C = ℕ} (λ x y. x + 256 * y) (get_or-drop j s i 0) (word_drop k j s (i + 1) ∙ ap (word_at k s) (sym (add_assoc j i 1)))
 
-pub words-drop : (k n j : ℕ) (s : List ℕ) (i : ℕ) → wordsAt k n (drop j s) i ≡ wordsAt k n s (j + i)
-words-drop k zero j s i = refl
-words-drop k (suc n) j s i =
-    ap₂ {B = List ℕ} {C = List ℕ} (λ x y. x ∷ y) (word-drop k j s i) (words-drop k n j s (i + k) ∙ ap (wordsAt k n s) (sym (add_assoc j i k)))
+pub words_drop : (k n j : ℕ) (s : List ℕ) (i : ℕ) → words_at k n (drop j s) i ≡ words_at k n s (j + i)
+words_drop k zero j s i = refl
+words_drop k (suc n) j s i =
+    ap₂ {B = List ℕ} {C = List ℕ} (λ x y. x ∷ y) (word_drop k j s i) (words_drop k n j s (i + k) ∙ ap (words_at k n s) (sym (add_assoc j i k)))
 
 -- ---- words in the first m elements of s
 
-word-take : (k m : ℕ) (s : List ℕ) (i : ℕ) → i + k ≤ m → word_at k (take m s) i ≡ word_at k s i
-word-take zero m s i h = refl
-word-take (suc k) m s i h = ap₂ {C = ℕ} (λ x y. x + 256 * y) (get_or-take m s i 0 (omega arith)) (word-take k m s (i + 1) (omega arith))
+word_take : (k m : ℕ) (s : List ℕ) (i : ℕ) → i + k ≤ m → word_at k (take m s) i ≡ word_at k s i
+word_take zero m s i h = refl
+word_take (suc k) m s i h = ap₂ {C = ℕ} (λ x y. x + 256 * y) (get_or-take m s i 0 (omega arith)) (word_take k m s (i + 1) (omega arith))
 
-pub words_take : (k n m : ℕ) (s : List ℕ) (i : ℕ) → i + n * k ≤ m → wordsAt k n (take m s) i ≡ wordsAt k n s i
+pub words_take : (k n m : ℕ) (s : List ℕ) (i : ℕ) → i + n * k ≤ m → words_at k n (take m s) i ≡ words_at k n s i
 words_take k zero m s i h = refl
 words_take k (suc n) m s i h =
     let e = suc-mul n k in
-    ap₂ {B = List ℕ} {C = List ℕ} (λ x y. x ∷ y) (word-take k m s i (omega arith)) (words_take k n m s (i + k) (omega arith))
+    ap₂ {B = List ℕ} {C = List ℕ} (λ x y. x ∷ y) (word_take k m s i (omega arith)) (words_take k n m s (i + k) (omega arith))
 
 -- ---- words from bytes that were written
 
 -- the words in the bytes of v are those of v, reduced
-pub words-bytes : (k : ℕ) (v p q : List ℕ) (i : ℕ) → length p ≡ i → wordsAt k (length v) (p ++ (bytes_of k v ++ q)) i ≡ map (λ (x : ℕ). x % 256 ^ k) v
-words-bytes k [] p q i e = refl
-words-bytes k (x ∷ xs) p q i e =
+pub words_bytes : (k : ℕ) (v p q : List ℕ) (i : ℕ) → length p ≡ i → words_at k (length v) (p ++ (bytes_of k v ++ q)) i ≡ map (λ (x : ℕ). x % 256 ^ k) v
+words_bytes k [] p q i e = refl
+words_bytes k (x ∷ xs) p q i e =
     let r = bytes_of k xs ++ q in
     let a : (bytes k x ++ bytes_of k xs) ++ q ≡ bytes k x ++ r = append_assoc (bytes k x) (bytes_of k xs) q in
-    let l : length (p ++ bytes k x) ≡ i + k = length-append p (bytes k x) ∙ ap (λ (n : ℕ). n + length (bytes k x)) e ∙ ap (λ (n : ℕ). i + n) (length-bytes k x) in
-    ap (λ (t : List ℕ). word_at k (p ++ t) i ∷ wordsAt k (length xs) (p ++ t) (i + k)) a
-    ∙ ap (λ (n : ℕ). n ∷ wordsAt k (length xs) (p ++ (bytes k x ++ r)) (i + k)) (word_bytes k x p r i e)
+    let l : length (p ++ bytes k x) ≡ i + k = length-append p (bytes k x) ∙ ap (λ (n : ℕ). n + length (bytes k x)) e ∙ ap (λ (n : ℕ). i + n) (length_bytes k x) in
+    ap (λ (t : List ℕ). word_at k (p ++ t) i ∷ words_at k (length xs) (p ++ t) (i + k)) a
+    ∙ ap (λ (n : ℕ). n ∷ words_at k (length xs) (p ++ (bytes k x ++ r)) (i + k)) (word_bytes k x p r i e)
     ∙ ap (λ (t : List ℕ). x % 256 ^ k ∷ t)
-    (ap (λ (t : List ℕ). wordsAt k (length xs) t (i + k)) (sym (append_assoc p (bytes k x) r)) ∙ words-bytes k xs (p ++ bytes k x) q (i + k) l)
+    (ap (λ (t : List ℕ). words_at k (length xs) t (i + k)) (sym (append_assoc p (bytes k x) r)) ∙ words_bytes k xs (p ++ bytes k x) q (i + k) l)
 
 -- ---- words that are stored one after the other
 
@@ -193,29 +193,29 @@ abbrev stores : ℕ → List ℕ → ℕ → List ℕ → List ℕ
 stores k l i [] = l
 stores k l i (x ∷ v) = stores k (sets l (i * k) (bytes k x)) (suc i) v
 
-sets-append : (a b l : List ℕ) (i : ℕ) → sets (sets l i a) (i + length a) b ≡ sets l i (a ++ b)
-sets-append [] b l i = ap (λ (n : ℕ). sets l n b) (add-zero i)
-sets-append (x ∷ a) b l i = ap (λ (n : ℕ). sets (sets (set l i x) (suc i) a) n b) (omega arith) ∙ sets-append a b (set l i x) (suc i)
+sets_append : (a b l : List ℕ) (i : ℕ) → sets (sets l i a) (i + length a) b ≡ sets l i (a ++ b)
+sets_append [] b l i = ap (λ (n : ℕ). sets l n b) (add-zero i)
+sets_append (x ∷ a) b l i = ap (λ (n : ℕ). sets (sets (set l i x) (suc i) a) n b) (omega arith) ∙ sets_append a b (set l i x) (suc i)
 
-stores-sets : (k : ℕ) (v l : List ℕ) (i : ℕ) → stores k l i v ≡ sets l (i * k) (bytes_of k v)
-stores-sets k [] l i = refl
-stores-sets k (x ∷ v) l i =
-    let n : suc i * k ≡ i * k + length (bytes k x) = omega (arith, suc-mul i k, length-bytes k x) in
-    stores-sets k v (sets l (i * k) (bytes k x)) (suc i) ∙ ap (λ (j : ℕ). sets (sets l (i * k) (bytes k x)) j (bytes_of k v)) n
-    ∙ sets-append (bytes k x) (bytes_of k v) l (i * k)
+stores_sets : (k : ℕ) (v l : List ℕ) (i : ℕ) → stores k l i v ≡ sets l (i * k) (bytes_of k v)
+stores_sets k [] l i = refl
+stores_sets k (x ∷ v) l i =
+    let n : suc i * k ≡ i * k + length (bytes k x) = omega (arith, suc-mul i k, length_bytes k x) in
+    stores_sets k v (sets l (i * k) (bytes k x)) (suc i) ∙ ap (λ (j : ℕ). sets (sets l (i * k) (bytes k x)) j (bytes_of k v)) n
+    ∙ sets_append (bytes k x) (bytes_of k v) l (i * k)
 
-stores-front : (k : ℕ) (v l : List ℕ) → length v * k ≤ length l → stores k l 0 v ≡ bytes_of k v ++ drop (length v * k) l
-stores-front k v l h =
-    let n : length (bytes_of k v) ≡ length v * k = length-bytesOf k v in
-    stores-sets k v l 0 ∙ ap (λ (j : ℕ). sets l j (bytes_of k v)) (zero-mul k) ∙ front l (bytes_of k v) (omega arith)
+stores_front : (k : ℕ) (v l : List ℕ) → length v * k ≤ length l → stores k l 0 v ≡ bytes_of k v ++ drop (length v * k) l
+stores_front k v l h =
+    let n : length (bytes_of k v) ≡ length v * k = length-bytes_of k v in
+    stores_sets k v l 0 ∙ ap (λ (j : ℕ). sets l j (bytes_of k v)) (zero-mul k) ∙ front l (bytes_of k v) (omega arith)
     ∙ ap (λ (j : ℕ). bytes_of k v ++ drop j l) n
 
 -- what eight stores leave that put the words of v one after the other from the start: the bytes of v, and then the rest
-pub eight-stores : (k : ℕ) (l v : List ℕ) → length v ≡ 8 → 8 * k ≤ length l → {a b c d e f g h : List ℕ}
+pub eight_stores : (k : ℕ) (l v : List ℕ) → length v ≡ 8 → 8 * k ≤ length l → {a b c d e f g h : List ℕ}
     → a ≡ sets l (0 * k) (bytes k (get_or v 0 0)) → b ≡ sets a (1 * k) (bytes k (get_or v 1 0)) → c ≡ sets b (2 * k) (bytes k (get_or v 2 0))
     → d ≡ sets c (3 * k) (bytes k (get_or v 3 0)) → e ≡ sets d (4 * k) (bytes k (get_or v 4 0)) → f ≡ sets e (5 * k) (bytes k (get_or v 5 0))
     → g ≡ sets f (6 * k) (bytes k (get_or v 6 0)) → h ≡ sets g (7 * k) (bytes k (get_or v 7 0)) → h ≡ bytes_of k v ++ drop (8 * k) l
-eight-stores k l v len fits {h = h} p q r s t u w x =
-    let all : h ≡ stores k l 0 (fromAt 8 v 0) = cc in
+eight_stores k l v len fits {h = h} p q r s t u w x =
+    let all : h ≡ stores k l 0 (from_at 8 v 0) = cc in
     let room : length v * k ≤ length l = rw len fits in
-    all ∙ ap (stores k l 0) (spread 8 v len) ∙ stores-front k v l room ∙ ap (λ (n : ℕ). bytes_of k v ++ drop (n * k) l) len
+    all ∙ ap (stores k l 0) (spread 8 v len) ∙ stores_front k v l room ∙ ap (λ (n : ℕ). bytes_of k v ++ drop (n * k) l) len

@@ -17,8 +17,8 @@ module _ (o : List ℕ) (i w : ℕ) (d : List ℕ) (l : length d ≡ w) (h : i +
   apart : placed o i w d ≡ (take i o ++ d) ++ drop (i + w) o
   apart = sym (append_assoc (take i o) d (drop (i + w) o))
 
-  pub placed-length : length (placed o i w d) ≡ length o
-  placed-length = ap length apart ∙ length-append (take i o ++ d) (drop (i + w) o) ∙ omega (arith, front_length, length-drop (i + w) o)
+  pub placed_length : length (placed o i w d) ≡ length o
+  placed_length = ap length apart ∙ length-append (take i o ++ d) (drop (i + w) o) ∙ omega (arith, front_length, length-drop (i + w) o)
 
   front : take (i + w) (placed o i w d) ≡ take i o ++ d
   front = ap (take (i + w)) apart ∙ take_at (take i o ++ d) (drop (i + w) o) (i + w) front_length

@@ -7,9 +7,9 @@ word_at zero s i = 0
 word_at (suc k) s i = get_or s i 0 + 256 * word_at k s (i + 1)
 
 -- the n words of k bytes each that stand from offset i of s
-abbrev pub wordsAt : ℕ → ℕ → List ℕ → ℕ → List ℕ
-wordsAt k zero s i = []
-wordsAt k (suc n) s i = word_at k s i ∷ wordsAt k n s (i + k)
+abbrev pub words_at : ℕ → ℕ → List ℕ → ℕ → List ℕ
+words_at k zero s i = []
+words_at k (suc n) s i = word_at k s i ∷ words_at k n s (i + k)
 
 -- the lowest k bytes of x, lowest first
 abbrev pub bytes : ℕ → ℕ → List ℕ

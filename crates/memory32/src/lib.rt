@@ -1,7 +1,7 @@
 // Words of 32 bits and vectors of eight of them in lent bytes, lowest byte first.
 ghost use Rattle.std.specs.Prelude.{◌≡◌, ◌++◌, ◌+◌, ◌<◌, ◌≤◌, length, take, drop};
 ghost use Rattle.std.proofs.lemmas.List.Edits.{sets};
-ghost use Rattle.memory.specs.Bytes.{word_at, wordsAt, bytes, bytes_of};
+ghost use Rattle.memory.specs.Bytes.{word_at, words_at, bytes, bytes_of};
 
 fn byte(x: u8) -> u32
     ensures value { result ≡ x }
@@ -25,7 +25,7 @@ pub fn load(s: &[u8], at: usize) -> u32
 // The first eight words of `s`.
 pub fn load_vector(s: &[u8]) -> [u32; 8]
     requires { 32 ≤ length s.now }
-    ensures { result ≡ wordsAt 4 8 s.now 0 }
+    ensures { result ≡ words_at 4 8 s.now 0 }
 {
     [
         load(s, 0),

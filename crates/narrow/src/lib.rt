@@ -3,11 +3,11 @@ ghost use Rattle.std.specs.Prelude.{◌≡◌, ◌++◌, ◌+◌, ◌<◌, ◌�
 ghost use Rattle.quasigroup.specs.Tables.{width32};
 ghost use Rattle.digest.specs.Blocks.{compressed, rest, filled};
 ghost use Rattle.digest.specs.Step.{step};
-ghost use Rattle.digest.specs.Kind.{narrowKind};
-ghost use Rattle.digest.specs.State.{closed, finishBitsAnswer, finishBitsOut};
-ghost use Rattle.digest.specs.OneCall.{digestAnswer, digestOut};
+ghost use Rattle.digest.specs.Kind.{narrow_kind};
+ghost use Rattle.digest.specs.State.{closed, finish_bits_answer, finish_bits_out};
+ghost use Rattle.digest.specs.OneCall.{digest_answer, digest_out};
 ghost use Rattle.compression32.specs.Pipes.{pipe32};
-ghost use Rattle.narrow.specs.Outcomes.{hashOf, opened, fed};
+ghost use Rattle.narrow.specs.Outcomes.{hash_of, opened, fed};
 
 use answer::Answer;
 use compression32::Pipe32;
@@ -78,7 +78,7 @@ fn absorb(p: Pipe32, a: &[u8], s: &[u8]) -> Absorbed
 // The pipe behind the last block: the pending bytes `w`, the byte of the one bit, zeros and the length in bits.
 fn close(p: Pipe32, w: &[u8], mark: u8, bits: u64) -> Pipe32
     requires { length w.now < 64 }
-    ensures { pipe32 result ≡ closed narrowKind (pipe32 p) w.now (length w.now) mark bits }
+    ensures { pipe32 result ≡ closed narrow_kind (pipe32 p) w.now (length w.now) mark bits }
 {
     let mut buf = [0u8; 128];
     let n = padding::tail(&mut buf, w, 64, mark, bits);
@@ -155,8 +155,8 @@ pub fn feed_in(hash: &mut Narrow, bytes: &[u8]) -> Answer
 
 // The digest of what was fed and then the `count` highest bits of `last`, to the start of `out`. The caller's state stays as it is, and may be fed further.
 pub fn finish(hash: Narrow, last: u8, count: u32, out: &mut [u8]) -> Answer
-    ensures value { result ≡ finishBitsAnswer narrowKind (hashOf hash) count out.old }
-    ensures out_after { out.new ≡ finishBitsOut narrowKind (hashOf hash) last count out.old }
+    ensures value { result ≡ finish_bits_answer narrow_kind (hash_of hash) count out.old }
+    ensures out_after { out.new ≡ finish_bits_out narrow_kind (hash_of hash) last count out.old }
 {
     let size = hash.size;
     let total = hash.total;
@@ -176,8 +176,8 @@ pub fn finish(hash: Narrow, last: u8, count: u32, out: &mut [u8]) -> Answer
 
 // The digest of `message`, to the start of `out`, for this kind's sizes.
 pub fn digest(size: u32, message: &[u8], out: &mut [u8]) -> Answer
-    ensures value { result ≡ digestAnswer narrowKind size message.now out.old }
-    ensures out_after { out.new ≡ digestOut narrowKind size message.now out.old }
+    ensures value { result ≡ digest_answer narrow_kind size message.now out.old }
+    ensures out_after { out.new ≡ digest_out narrow_kind size message.now out.old }
 {
     let answer = refusal::digesting(224, 256, size as u64, message.len(), out.len());
     if !answer::is_done(answer) {

@@ -7,29 +7,29 @@ use Rattle.answer.specs.declared.Answer.{Answer}
 use Rattle.answer.specs.declared.Answer.TheVariants.{Done, Refused}
 use Rattle.answer.specs.declared.Refusal.TheVariants.{Width, Records, Output}
 use Rattle.answer.specs.Injective.{Fits}
-use Rattle.quasigroup.specs.Tables.{knownWidth}
-use Rattle.shuffle.specs.Shuffle.{recordLength, recordsAnswer}
+use Rattle.quasigroup.specs.Tables.{known_width}
+use Rattle.shuffle.specs.Shuffle.{record_length, records_answer}
 use Rattle.shuffle.proofs.RoundTrip.{accepted as answered}
-use Rattle.shuffle.proofs.Fitting.{records-fit}
+use Rattle.shuffle.proofs.Fitting.{records_fit}
 
 module _ (w m n : ℕ) (small : m < 2 ^ 63) where
   -- the call returns r, which fits
   abbrev Ended : Answer → Type 0
-  Ended r = (r ≡ recordsAnswer w m n) × Fits (2 ^ 63) r
+  Ended r = (r ≡ records_answer w m n) × Fits (2 ^ 63) r
 
-  ended : (r : Answer) → r ≡ recordsAnswer w m n → Ended r
-  ended r e = (e, subst (Fits (2 ^ 63)) (sym e) (records-fit w m n small))
+  ended : (r : Answer) → r ≡ records_answer w m n → Ended r
+  ended r e = (e, subst (Fits (2 ^ 63)) (sym e) (records_fit w m n small))
 
-  pub unknown-refused : knownWidth w ≡ false → Ended (Refused Width 0)
-  unknown-refused k = ended (Refused Width 0) (sym (rw k))
+  pub unknown_refused : known_width w ≡ false → Ended (Refused Width 0)
+  unknown_refused k = ended (Refused Width 0) (sym (rw k))
 
-  module _ (k : knownWidth w ≡ true) where
-    pub broken-refused : (m % recordLength w ≡ 0 → ⊥) → Ended (Refused Records 0)
-    broken-refused h = ended (Refused Records 0) (sym (rw (k, ne_eqb _ _ h)))
+  module _ (k : known_width w ≡ true) where
+    pub broken_refused : (m % record_length w ≡ 0 → ⊥) → Ended (Refused Records 0)
+    broken_refused h = ended (Refused Records 0) (sym (rw (k, ne_eqb _ _ h)))
 
-    module _ (whole : m % recordLength w ≡ 0) where
-      pub output-refused : n < m → Ended (Refused Output 0)
-      output-refused h = ended (Refused Output 0) (sym (rw (k, eq-eqb _ _ whole, lt-leb _ _ h)))
+    module _ (whole : m % record_length w ≡ 0) where
+      pub output_refused : n < m → Ended (Refused Output 0)
+      output_refused h = ended (Refused Output 0) (sym (rw (k, eq-eqb _ _ whole, lt-leb _ _ h)))
 
       pub accepted : m ≤ n → Ended (Done m)
       accepted h = ended (Done m) (sym (answered w m n k whole h))

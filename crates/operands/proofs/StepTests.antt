@@ -9,12 +9,12 @@ use lib.ListN.{length}
 use Rattle.answer.specs.declared.Answer.{Answer}
 use Rattle.answer.specs.declared.Answer.TheVariants.{Done, Refused}
 use Rattle.answer.specs.declared.Refusal.TheVariants.{Width, Operand}
-use Rattle.answer.specs.Refuse.{isDone}
+use Rattle.answer.specs.Refuse.{is_done}
 use Rattle.answer.proofs.Tests.{both_true}
-use Rattle.answer.proofs.Refuse.{unless-done}
-use Rattle.quasigroup.specs.Tables.{knownWidth}
+use Rattle.answer.proofs.Refuse.{unless_done}
+use Rattle.quasigroup.specs.Tables.{known_width}
 use Rattle.quasigroup.proofs.Widths.{other_width}
-use Rattle.pipe.specs.Call.{stepAnswer}
+use Rattle.pipe.specs.Call.{step_answer}
 
 module _ (w : ℕ) (m b : List ℕ) where
   abbrev fit : Bool
@@ -22,13 +22,13 @@ module _ (w : ℕ) (m b : List ℕ) where
 
   -- ---- the answer, from the tests
 
-  pub unknown-refused : knownWidth w ≡ false → Refused Width 0 ≡ stepAnswer w m b
-  unknown-refused k = sym (rw k)
+  pub unknown_refused : known_width w ≡ false → Refused Width 0 ≡ step_answer w m b
+  unknown_refused k = sym (rw k)
 
-  pub operand-refused : knownWidth w ≡ true → fit ≡ false → Refused Operand 0 ≡ stepAnswer w m b
-  operand-refused k h = sym (rw (k, h))
+  pub operand_refused : known_width w ≡ true → fit ≡ false → Refused Operand 0 ≡ step_answer w m b
+  operand_refused k h = sym (rw (k, h))
 
-  pub accepted : knownWidth w ≡ true → fit ≡ true → Done (2 * w) ≡ stepAnswer w m b
+  pub accepted : known_width w ≡ true → fit ≡ true → Done (2 * w) ≡ step_answer w m b
   accepted k h = sym (rw (k, h))
 
   -- ---- what a success knows
@@ -38,9 +38,9 @@ module _ (w : ℕ) (m b : List ℕ) where
     pub pipe : length b ≡ 2 * w
     pub block : length m ≡ 2 * w
 
-  pub success : (r : Answer) → r ≡ stepAnswer w m b → isDone r ≡ true → Accepted
+  pub success : (r : Answer) → r ≡ step_answer w m b → is_done r ≡ true → Accepted
   success r e d =
-      let k = unless-done (knownWidth w) Width _ (ap isDone (sym e) ∙ d) in
-      let h = unless-done fit Operand (Done (2 * w)) k.1 in
+      let k = unless_done (known_width w) Width _ (ap is_done (sym e) ∙ d) in
+      let h = unless_done fit Operand (Done (2 * w)) k.1 in
       let l = both_true (eqb (length b) (2 * w)) (eqb (length m) (2 * w)) h.0 in
       record { other = other_width w k.0; pipe = eqb-true (length b) (2 * w) l.0; block = eqb-true (length m) (2 * w) l.1 }

@@ -9,28 +9,28 @@ use lib.ListN.{length}
 use Rattle.answer.specs.declared.Answer.{Answer}
 use Rattle.answer.specs.declared.Answer.TheVariants.{Done, Refused}
 use Rattle.answer.specs.declared.Refusal.TheVariants.{Width, Operand, Output}
-use Rattle.answer.specs.Refuse.{isDone}
+use Rattle.answer.specs.Refuse.{is_done}
 use Rattle.answer.proofs.Tests.{both_true}
-use Rattle.answer.proofs.Refuse.{unless-done}
-use Rattle.quasigroup.specs.Tables.{knownWidth}
+use Rattle.answer.proofs.Refuse.{unless_done}
+use Rattle.quasigroup.specs.Tables.{known_width}
 use Rattle.quasigroup.proofs.Widths.{other_width}
-use Rattle.operands.specs.Operation.{answerFor}
+use Rattle.operands.specs.Operation.{answer_for}
 
 module _ (w : ℕ) (x y out : List ℕ) where
   -- ---- the answer, from the tests
 
-  pub unknown-refused : knownWidth w ≡ false → Refused Width 0 ≡ answerFor w x y out
-  unknown-refused k = sym (rw k)
+  pub unknown_refused : known_width w ≡ false → Refused Width 0 ≡ answer_for w x y out
+  unknown_refused k = sym (rw k)
 
-  module _ (k : knownWidth w ≡ true) where
-    pub operand-refused : (eqb (length x) w && eqb (length y) w) ≡ false → Refused Operand 0 ≡ answerFor w x y out
-    operand-refused h = sym (rw (k, h))
+  module _ (k : known_width w ≡ true) where
+    pub operand_refused : (eqb (length x) w && eqb (length y) w) ≡ false → Refused Operand 0 ≡ answer_for w x y out
+    operand_refused h = sym (rw (k, h))
 
     module _ (fit : (eqb (length x) w && eqb (length y) w) ≡ true) where
-      pub output-refused : length out < w → Refused Output 0 ≡ answerFor w x y out
-      output-refused h = sym (rw (k, fit, lt-leb _ _ h))
+      pub output_refused : length out < w → Refused Output 0 ≡ answer_for w x y out
+      output_refused h = sym (rw (k, fit, lt-leb _ _ h))
 
-      pub accepted : w ≤ length out → Done w ≡ answerFor w x y out
+      pub accepted : w ≤ length out → Done w ≡ answer_for w x y out
       accepted h = sym (rw (k, fit, le-leb _ _ h))
 
   -- ---- what a success knows
@@ -41,11 +41,11 @@ module _ (w : ℕ) (x y out : List ℕ) where
     pub second : length y ≡ w
     pub room : w ≤ length out
 
-  pub success : (r : Answer) → r ≡ answerFor w x y out → isDone r ≡ true → Accepted
+  pub success : (r : Answer) → r ≡ answer_for w x y out → is_done r ≡ true → Accepted
   success r e d =
-      let a = unless-done (knownWidth w) Width _ (ap isDone (sym e) ∙ d) in
-      let b = unless-done (eqb (length x) w && eqb (length y) w) Operand _ a.1 in
-      let c = unless-done (leb w (length out)) Output _ b.1 in
+      let a = unless_done (known_width w) Width _ (ap is_done (sym e) ∙ d) in
+      let b = unless_done (eqb (length x) w && eqb (length y) w) Operand _ a.1 in
+      let c = unless_done (leb w (length out)) Output _ b.1 in
       let d = both_true (eqb (length x) w) (eqb (length y) w) b.0 in
       record {
         other = other_width w a.0;

@@ -2,7 +2,7 @@
 -- The statement; proofs/Fitting.antt shows it.
 use Rattle.std.specs.Prelude.{List, ℕ, ◌^◌}
 use Rattle.answer.specs.Injective.{Fits}
-use Rattle.operands.specs.Operation.{answerFor}
+use Rattle.operands.specs.Operation.{answer_for}
 
 abbrev pub OperationFits : Type 0
-OperationFits = (w : ℕ) (x y out : List ℕ) → Fits (2 ^ 32) (answerFor w x y out)
+OperationFits = (w : ℕ) (x y out : List ℕ) → Fits (2 ^ 32) (answer_for w x y out)

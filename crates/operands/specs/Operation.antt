@@ -4,21 +4,21 @@ use Rattle.answer.specs.declared.Answer.{Answer}
 use Rattle.answer.specs.declared.Answer.TheVariants.{Done}
 use Rattle.answer.specs.declared.Refusal.TheVariants.{Width, Operand, Output}
 use Rattle.answer.specs.Refuse.{unless, outcome}
-use Rattle.memory.specs.Bytes.{wordsAt, bytes_of}
-use Rattle.quasigroup.specs.Tables.{Width as Parameters, width_of, knownWidth}
+use Rattle.memory.specs.Bytes.{words_at, bytes_of}
+use Rattle.quasigroup.specs.Tables.{Width as Parameters, width_of, known_width}
 
 -- 5, the width is not 32 or 64; 6, either operand is not exactly w bytes; 4, the output is under w bytes
-abbrev pub answerFor : ℕ → List ℕ → List ℕ → List ℕ → Answer
-answerFor w x y out =
-    unless (knownWidth w) Width
+abbrev pub answer_for : ℕ → List ℕ → List ℕ → List ℕ → Answer
+answer_for w x y out =
+    unless (known_width w) Width
     (unless (eqb (length x) w && eqb (length y) w) Operand
     (unless (leb w (length out)) Output
     (Done w)))
 
 -- an operation on vectors of eight words of w bits, on their bytes
-unfoldable pub onBytes : (Parameters → List ℕ → List ℕ → List ℕ) → ℕ → List ℕ → List ℕ → List ℕ
-onBytes op w x y = bytes_of (w / 8) (op (width_of w) (wordsAt (w / 8) 8 x 0) (wordsAt (w / 8) 8 y 0))
+unfoldable pub on_bytes : (Parameters → List ℕ → List ℕ → List ℕ) → ℕ → List ℕ → List ℕ → List ℕ
+on_bytes op w x y = bytes_of (w / 8) (op (width_of w) (words_at (w / 8) 8 x 0) (words_at (w / 8) 8 y 0))
 
 -- the output after the call: the result in its first w bytes and the rest as it was, or, after a refusal, all as it was
-abbrev pub outputAfter : (Parameters → List ℕ → List ℕ → List ℕ) → ℕ → List ℕ → List ℕ → List ℕ → List ℕ
-outputAfter op w x y out = outcome (answerFor w x y out) (onBytes op w x y ++ drop w out) out
+abbrev pub output_after : (Parameters → List ℕ → List ℕ → List ℕ) → ℕ → List ℕ → List ℕ → List ℕ → List ℕ
+output_after op w x y out = outcome (answer_for w x y out) (on_bytes op w x y ++ drop w out) out

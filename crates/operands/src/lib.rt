@@ -4,14 +4,14 @@ pub mod records;
 pub mod step;
 
 ghost use Rattle.std.specs.Prelude.{◌≡◌, ◌&&◌, eqb, length};
-ghost use Rattle.quasigroup.specs.Tables.{knownWidth};
-ghost use Rattle.operands.specs.Operation.{answerFor};
+ghost use Rattle.quasigroup.specs.Tables.{known_width};
+ghost use Rattle.operands.specs.Operation.{answer_for};
 
 use answer::{Answer, Refusal};
 
 // Whether the width is 32 or 64.
 pub fn known_width(width: u32) -> bool
-    ensures { result ≡ knownWidth width }
+    ensures { result ≡ known_width width }
 {
     if width == 32 {
         return true;
@@ -31,7 +31,7 @@ fn operands_fit(n: usize, x: &[u8], y: &[u8]) -> bool
 
 // The answer, by the refusals in their order. Nothing is written.
 pub fn answer_for(width: u32, x: &[u8], y: &[u8], out: &[u8]) -> Answer
-    ensures { result ≡ answerFor width x.now y.now out.now }
+    ensures { result ≡ answer_for width x.now y.now out.now }
 {
     if !known_width(width) {
         return Answer::Refused(Refusal::Width, 0);

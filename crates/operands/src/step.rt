@@ -1,12 +1,12 @@
 // What a step of one block on a lent pipe answers.
 ghost use Rattle.std.specs.Prelude.{◌≡◌};
-ghost use Rattle.pipe.specs.Call.{stepAnswer};
+ghost use Rattle.pipe.specs.Call.{step_answer};
 
 use answer::{Answer, Refusal};
 
 // The answer, by the refusals in their order. Nothing is written.
 pub fn answer_for(width: u32, pipe: &[u8], block: &[u8]) -> Answer
-    ensures { result ≡ stepAnswer width block.now pipe.now }
+    ensures { result ≡ step_answer width block.now pipe.now }
 {
     if !crate::known_width(width) {
         return Answer::Refused(Refusal::Width, 0);

@@ -2,11 +2,11 @@
 ghost use Rattle.std.specs.Prelude.{◌≡◌};
 ghost use Rattle.answer.specs.Number.{number_of};
 ghost use Rattle.answer.specs.Refuse.{outcome};
-ghost use Rattle.digest.specs.Kind.{narrowKind, wideKind};
-ghost use Rattle.digest.specs.State.{finishAnswer, finishOut, finishBitsAnswer, finishBitsOut};
-ghost use Rattle.narrow.specs.Outcomes.{hashOf as ofNarrow};
-ghost use Rattle.wide.specs.Outcomes.{hashOf as ofWide};
-ghost use Rattle.pieces.specs.Piece.{narrowOpened, narrowFed, wideOpened, wideFed};
+ghost use Rattle.digest.specs.Kind.{narrow_kind, wide_kind};
+ghost use Rattle.digest.specs.State.{finish_answer, finish_out, finish_bits_answer, finish_bits_out};
+ghost use Rattle.narrow.specs.Outcomes.{hash_of as ofNarrow};
+ghost use Rattle.wide.specs.Outcomes.{hash_of as ofWide};
+ghost use Rattle.pieces.specs.Piece.{narrow_opened, narrow_fed, wide_opened, wide_fed};
 
 use answer::Answer;
 use narrow::Narrow;
@@ -36,7 +36,7 @@ fn narrow_outcome(answer: Answer, new: Narrow, old: Narrow) -> Narrow
 
 // A narrow hash of `size` bits is opened where `hash` stands, which a refusal leaves as it was.
 pub fn narrow_open(hash: Narrow, size: u32) -> NarrowPiece
-    ensures { result ≡ narrowOpened hash size }
+    ensures { result ≡ narrow_opened hash size }
 {
     let r = narrow::open(size);
     let answer = r.answer;
@@ -47,7 +47,7 @@ pub fn narrow_open(hash: Narrow, size: u32) -> NarrowPiece
 }
 
 pub fn narrow_feed(hash: Narrow, bytes: &[u8]) -> NarrowPiece
-    ensures { result ≡ narrowFed hash bytes.now }
+    ensures { result ≡ narrow_fed hash bytes.now }
 {
     let r = narrow::feed(hash, bytes);
     let answer = r.answer;
@@ -58,16 +58,16 @@ pub fn narrow_feed(hash: Narrow, bytes: &[u8]) -> NarrowPiece
 
 // The digest of what a narrow hash was fed: document 01's finishing, which is that with no bits.
 pub fn narrow_finish(hash: Narrow, out: &mut [u8]) -> u64
-    ensures { (result ≡ number_of (finishAnswer narrowKind (ofNarrow hash) out.old))
-        × (out.new ≡ finishOut narrowKind (ofNarrow hash) out.old) }
+    ensures { (result ≡ number_of (finish_answer narrow_kind (ofNarrow hash) out.old))
+        × (out.new ≡ finish_out narrow_kind (ofNarrow hash) out.old) }
 {
     narrow_finish_bits(hash, 0, 0, out)
 }
 
 // The same, with the `count` highest bits of `last` behind what was fed.
 pub fn narrow_finish_bits(hash: Narrow, last: u8, count: u32, out: &mut [u8]) -> u64
-    ensures { (result ≡ number_of (finishBitsAnswer narrowKind (ofNarrow hash) count out.old))
-        × (out.new ≡ finishBitsOut narrowKind (ofNarrow hash) last count out.old) }
+    ensures { (result ≡ number_of (finish_bits_answer narrow_kind (ofNarrow hash) count out.old))
+        × (out.new ≡ finish_bits_out narrow_kind (ofNarrow hash) last count out.old) }
 {
     answer::number(narrow::finish(hash, last, count, out))
 }
@@ -84,7 +84,7 @@ fn wide_outcome(answer: Answer, new: Wide, old: Wide) -> Wide
 
 // A wide hash of `size` bits is opened where `hash` stands, which a refusal leaves as it was.
 pub fn wide_open(hash: Wide, size: u32) -> WidePiece
-    ensures { result ≡ wideOpened hash size }
+    ensures { result ≡ wide_opened hash size }
 {
     let r = wide::open(size);
     let answer = r.answer;
@@ -95,7 +95,7 @@ pub fn wide_open(hash: Wide, size: u32) -> WidePiece
 }
 
 pub fn wide_feed(hash: Wide, bytes: &[u8]) -> WidePiece
-    ensures { result ≡ wideFed hash bytes.now }
+    ensures { result ≡ wide_fed hash bytes.now }
 {
     let r = wide::feed(hash, bytes);
     let answer = r.answer;
@@ -106,16 +106,16 @@ pub fn wide_feed(hash: Wide, bytes: &[u8]) -> WidePiece
 
 // The digest of what a wide hash was fed: document 01's finishing, which is that with no bits.
 pub fn wide_finish(hash: Wide, out: &mut [u8]) -> u64
-    ensures { (result ≡ number_of (finishAnswer wideKind (ofWide hash) out.old))
-        × (out.new ≡ finishOut wideKind (ofWide hash) out.old) }
+    ensures { (result ≡ number_of (finish_answer wide_kind (ofWide hash) out.old))
+        × (out.new ≡ finish_out wide_kind (ofWide hash) out.old) }
 {
     wide_finish_bits(hash, 0, 0, out)
 }
 
 // The same, with the `count` highest bits of `last` behind what was fed.
 pub fn wide_finish_bits(hash: Wide, last: u8, count: u32, out: &mut [u8]) -> u64
-    ensures { (result ≡ number_of (finishBitsAnswer wideKind (ofWide hash) count out.old))
-        × (out.new ≡ finishBitsOut wideKind (ofWide hash) last count out.old) }
+    ensures { (result ≡ number_of (finish_bits_answer wide_kind (ofWide hash) count out.old))
+        × (out.new ≡ finish_bits_out wide_kind (ofWide hash) last count out.old) }
 {
     answer::number(wide::finish(hash, last, count, out))
 }

@@ -5,13 +5,13 @@ use lib.Dec.{eqb, lit≤}
 use lib.ListN.{length}
 use Rattle.answer.specs.declared.Answer.TheVariants.{Done}
 use Rattle.answer.specs.declared.Refusal.TheVariants.{Width, Operand}
-use Rattle.answer.proofs.Injective.{fits-unless}
-use Rattle.quasigroup.specs.Tables.{knownWidth}
-use Rattle.quasigroup.proofs.Widths.{of-known}
+use Rattle.answer.proofs.Injective.{fits_unless}
+use Rattle.quasigroup.specs.Tables.{known_width}
+use Rattle.quasigroup.proofs.Widths.{of_known}
 use Rattle.pipe.specs.Fitting.{BlockFits}
 
-pub block-fits : BlockFits
-block-fits w m b =
-    fits-unless (2 ^ 32) (knownWidth w) Width _ λ k.
-    fits-unless (2 ^ 32) (eqb (length b) (2 * w) && eqb (length m) (2 * w)) Operand (Done (2 * w)) λ _.
-    of-known (λ w. 2 * w < 2 ^ 32) (lit≤ tt) (lit≤ tt) w k
+pub block_fits : BlockFits
+block_fits w m b =
+    fits_unless (2 ^ 32) (known_width w) Width _ λ k.
+    fits_unless (2 ^ 32) (eqb (length b) (2 * w) && eqb (length m) (2 * w)) Operand (Done (2 * w)) λ _.
+    of_known (λ w. 2 * w < 2 ^ 32) (lit≤ tt) (lit≤ tt) w k

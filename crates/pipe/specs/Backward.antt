@@ -3,11 +3,11 @@
 use Rattle.std.specs.Prelude.{List, ℕ}
 use Rattle.quasigroup.specs.Tables.{Width}
 use Rattle.quasigroup.specs.Product.{product}
-use Rattle.quasigroup.specs.Division.{leftDivision, rightDivision}
+use Rattle.quasigroup.specs.Division.{left_division, right_division}
 use Rattle.quasigroup.specs.Vector.{reversed}
 use Rattle.invertible.specs.RoundTrip.{Direction, Forward, Backward}
 use Rattle.digest.specs.Pipe.{Pipe}
-use Rattle.digest.specs.Step.{pipeFrom, blockX, blockY, forward}
+use Rattle.digest.specs.Step.{pipe_from, block_x, block_y, forward}
 
 module _ (s : Width) where
   -- the pipe before a block whose halves are X and Y, where p, with the vectors D7 and D8, is the pipe after it; D1 and D2 hold the block alone
@@ -17,13 +17,13 @@ module _ (s : Width) where
       let D2 = product s D1 Y in
       let D7 = p.first in
       let D8 = p.second in
-      let D5 = leftDivision s (reversed X) D7 in
-      let D6 = leftDivision s D7 D8 in
-      let D4 = rightDivision s D6 D5 in
-      let D3 = rightDivision s D4 D2 in
-      let C0 = rightDivision s D3 D1 in
-      let C1 = leftDivision s D3 D5 in
-      pipeFrom C0 C1
+      let D5 = left_division s (reversed X) D7 in
+      let D6 = left_division s D7 D8 in
+      let D4 = right_division s D6 D5 in
+      let D3 = right_division s D4 D2 in
+      let C0 = right_division s D3 D1 in
+      let C1 = left_division s D3 D5 in
+      pipe_from C0 C1
 
   -- a block forward or back, by the direction
   abbrev pub moved : Direction → Pipe → List ℕ → List ℕ → Pipe
@@ -31,5 +31,5 @@ module _ (s : Width) where
   moved Backward p X Y = backward p X Y
 
   -- the pipe before a block m in bytes
-  abbrev pub stepBack : Pipe → List ℕ → Pipe
-  stepBack p m = backward p (blockX s m) (blockY s m)
+  abbrev pub step_back : Pipe → List ℕ → Pipe
+  step_back p m = backward p (block_x s m) (block_y s m)

@@ -2,7 +2,7 @@
 -- proofs/Fitting.antt shows it.
 use Rattle.std.specs.Prelude.{List, ℕ, ◌^◌}
 use Rattle.answer.specs.Injective.{Fits}
-use Rattle.pipe.specs.Call.{stepAnswer}
+use Rattle.pipe.specs.Call.{step_answer}
 
 abbrev pub BlockFits : Type 0
-BlockFits = (w : ℕ) (m b : List ℕ) → Fits (2 ^ 32) (stepAnswer w m b)
+BlockFits = (w : ℕ) (m b : List ℕ) → Fits (2 ^ 32) (step_answer w m b)

@@ -9,7 +9,7 @@ use Rattle.quasigroup.specs.Theorem.{OnlySolution, Admissible}
 use Rattle.digest.specs.Pipe.{Pipe}
 use Rattle.digest.specs.Blocks.{compressed}
 use Rattle.digest.specs.Step.{forward}
-use Rattle.digest.specs.Kind.{Kind, narrowKind, wideKind}
+use Rattle.digest.specs.Kind.{Kind, narrow_kind, wide_kind}
 use Rattle.pipe.specs.Backward.{backward, moved}
 
 -- a pipe of words below 2^w
@@ -40,7 +40,7 @@ pub record Reversible (s : Width) : Type 0 where
   -- a step forward leaves words below 2^w
   pub closed : (p : Pipe) (X Y : List ℕ) → PipeOf s.bits p → Vector s.bits X → Vector s.bits Y → PipeOf s.bits (forward s p X Y)
   -- there is exactly one pipe before q: the step back returns it, and the step forward from it finds q
-  pub uniqueBefore : (q : Pipe) (X Y : List ℕ) → PipeOf s.bits q → Vector s.bits X → Vector s.bits Y
+  pub unique_before : (q : Pipe) (X Y : List ℕ) → PipeOf s.bits q → Vector s.bits X → Vector s.bits Y
       → OnlySolution (PipeOf s.bits) (λ p. forward s p X Y) q (backward s q X Y)
   -- two different pipes never arrive at the same pipe by the same steps, however many: by the same blocks where all steps are forward
   pub injective : (l : List BlockStep) → Each (BlockStepOf s.bits) l → (p q : Pipe) → PipeOf s.bits p → PipeOf s.bits q
@@ -59,5 +59,5 @@ MessageInjective w k = (m : List ℕ) → Bytes m → (p q : Pipe) → PipeOf w 
     → (p ≡ q → ⊥) → compressed k.block k.step p m ≡ compressed k.block k.step q m → ⊥
 
 pub record MessagesInjective : Type 0 where
-  pub narrow : MessageInjective 32 narrowKind
-  pub wide : MessageInjective 64 wideKind
+  pub narrow : MessageInjective 32 narrow_kind
+  pub wide : MessageInjective 64 wide_kind

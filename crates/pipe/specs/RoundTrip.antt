@@ -5,7 +5,7 @@ use Rattle.answer.specs.declared.Answer.{Answer}
 use Rattle.invertible.specs.Invertible.{Each}
 use Rattle.invertible.specs.RoundTrip.{Direction, other, RoundTrip}
 use Rattle.memory.specs.Bytes.{Bytes}
-use Rattle.pipe.specs.Call.{stepAnswer, stepBytes}
+use Rattle.pipe.specs.Call.{step_answer, step_bytes}
 
 -- a call is its direction, its width and its block
 pub record BlockCall : Type 0 where
@@ -14,11 +14,11 @@ pub record BlockCall : Type 0 where
   pub block : List ℕ
 
 -- a call's answer, and the lent bytes after it
-abbrev pub answerTo : BlockCall → List ℕ → Answer
-answerTo c b = stepAnswer c.width c.block b
+abbrev pub answer_to : BlockCall → List ℕ → Answer
+answer_to c b = step_answer c.width c.block b
 
 abbrev pub after : BlockCall → List ℕ → List ℕ
-after c b = stepBytes c.direction c.width c.block b
+after c b = step_bytes c.direction c.width c.block b
 
 -- a call with its own width and block and the other direction
 abbrev pub exchanged : BlockCall → BlockCall
@@ -30,4 +30,4 @@ Blocks l = Each (λ c. Bytes c.block) l
 
 -- The way home of every list of calls finds the starting bytes, and each call on it answers what it answered on the way out
 abbrev pub BlockRoundTrips : Type 0
-BlockRoundTrips = (l : List BlockCall) → Blocks l → (b : List ℕ) → Bytes b → RoundTrip exchanged after answerTo l b
+BlockRoundTrips = (l : List BlockCall) → Blocks l → (b : List ℕ) → Bytes b → RoundTrip exchanged after answer_to l b

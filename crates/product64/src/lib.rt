@@ -3,7 +3,7 @@ ghost use Rattle.std.specs.Prelude.{◌≡◌};
 ghost use Rattle.quasigroup.specs.Tables.{width64};
 ghost use Rattle.quasigroup.specs.Vector.{reversed};
 ghost use Rattle.quasigroup.specs.Product.{joined, product};
-ghost use Rattle.quasigroup.specs.Barred.{barredProduct};
+ghost use Rattle.quasigroup.specs.Barred.{barred_product};
 
 use half64::{barred_left_half, left_half, right_half};
 
@@ -33,7 +33,7 @@ pub fn product(x: [u64; 8], y: [u64; 8]) -> [u64; 8]
 
 // The barred product of `x` and `y`: the words of `x` are taken from the other end.
 pub fn barred_product(x: [u64; 8], y: [u64; 8]) -> [u64; 8]
-    ensures { result ≡ barredProduct width64 x y }
+    ensures { result ≡ barred_product width64 x y }
 {
     joined(barred_left_half(x), right_half(y))
 }

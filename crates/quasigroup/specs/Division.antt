@@ -1,12 +1,12 @@
 -- The two divisions (000, section 2.1): a half of the product is undone step by step, last step first.
 use Rattle.std.specs.Prelude.{List, [], ◌∷◌, map, ℕ, ◌+◌, ◌-◌, ◌*◌, ◌%◌, ◌^◌, get_or}
 use Rattle.word.specs.Word.{minus, inverse}
-use Rattle.quasigroup.specs.Tables.{Width, rightSums}
+use Rattle.quasigroup.specs.Tables.{Width, right_sums}
 use Rattle.quasigroup.specs.Product.{pick, both, fold, first, xor, rotations, left_half, right_half}
 
 -- the inverse of the XOR step over single bits: rotated sum i is the XOR of the combinations whose numbers list i has
-abbrev pub leftUnxors : List (List ℕ)
-leftUnxors =
+abbrev pub left_unxors : List (List ℕ)
+left_unxors =
     (3 ∷ 4 ∷ 7 ∷ [])
     ∷ (0 ∷ 1 ∷ 4 ∷ 6 ∷ 7 ∷ [])
     ∷ (0 ∷ 2 ∷ 3 ∷ 4 ∷ 5 ∷ [])
@@ -19,8 +19,8 @@ leftUnxors =
 
 -- The right half's XOR step is J - A, where A is its square of sums and J is all ones. A A = I + 3 J and J A = 5 J over the whole numbers, so
 -- (J - A) A = 2 J - I, which is I over single bits: the square of sums itself is the inverse.
-abbrev pub rightUnxors : List (List ℕ)
-rightUnxors = rightSums
+abbrev pub right_unxors : List (List ℕ)
+right_unxors = right_sums
 
 -- The inverse of a square of sums A modulo 2^w is K + t J, where J is all ones, K is one of these two squares and A K = I + 8 J over the
 -- whole numbers. A J = 5 J, so t is the number with 5 t + 8 = 0 modulo 2^w.
@@ -53,7 +53,7 @@ right_inverse =
 abbrev pub fifths : ℕ → ℕ
 fifths w = 2 * inverse w 5 + 2 * (2 ^ w - 1)
 
--- a row of a square times a vector: `apply ◌+◌` of Square.antt, with products for repeated sums (`dot-is`, proofs/Half.antt)
+-- a row of a square times a vector: `apply ◌+◌` of Square.antt, with products for repeated sums (`dot_is`, proofs/Half.antt)
 abbrev pub dot : List ℕ → List ℕ → ℕ
 dot [] v = 0
 dot (a ∷ r) [] = 0
@@ -64,12 +64,12 @@ abbrev pub unsums : ℕ → List (List ℕ) → List ℕ → List ℕ
 unsums w K t = map (λ k. (fifths w * fold ◌+◌ t + dot k t) % 2 ^ w) K
 
 -- the XORs undone, then the rotations, and the constant taken from the first sum
-abbrev pub unrotatedSums : ℕ → ℕ → List ℕ → List (List ℕ) → List ℕ → List ℕ
-unrotatedSums w c rs U z = both (minus w) (rotations w (map (λ r. w - r) rs) (map (λ p. xor (pick p z)) U)) (first c)
+abbrev pub unrotated_sums : ℕ → ℕ → List ℕ → List (List ℕ) → List ℕ → List ℕ
+unrotated_sums w c rs U z = both (minus w) (rotations w (map (λ r. w - r) rs) (map (λ p. xor (pick p z)) U)) (first c)
 
 -- a half undone
 abbrev pub unhalf : ℕ → ℕ → List ℕ → List (List ℕ) → List (List ℕ) → List ℕ → List ℕ
-unhalf w c rs U K z = unsums w K (unrotatedSums w c rs U z)
+unhalf w c rs U K z = unsums w K (unrotated_sums w c rs U z)
 
 -- the result's words in the order of the combinations, less the half that is known
 abbrev pub separated : ℕ → List ℕ → List ℕ → List ℕ
@@ -77,15 +77,15 @@ separated w b h = map (λ i. minus w (get_or b ((i + 5) % 8) 0) (get_or h i 0)) 
 
 module _ (s : Width) where
   unfoldable pub unleft : List ℕ → List ℕ
-  unleft z = unhalf s.bits s.leftConstant s.leftAmounts leftUnxors left_inverse z
+  unleft z = unhalf s.bits s.left_constant s.left_amounts left_unxors left_inverse z
 
   unfoldable pub unright : List ℕ → List ℕ
-  unright z = unhalf s.bits s.rightConstant s.rightAmounts rightUnxors right_inverse z
+  unright z = unhalf s.bits s.right_constant s.right_amounts right_unxors right_inverse z
 
   -- a\b, the x with a*x = b
-  unfoldable pub leftDivision : List ℕ → List ℕ → List ℕ
-  leftDivision a b = unright (separated s.bits b (left_half s a))
+  unfoldable pub left_division : List ℕ → List ℕ → List ℕ
+  left_division a b = unright (separated s.bits b (left_half s a))
 
   -- b/a, the y with y*a = b
-  unfoldable pub rightDivision : List ℕ → List ℕ → List ℕ
-  rightDivision b a = unleft (separated s.bits b (right_half s a))
+  unfoldable pub right_division : List ℕ → List ℕ → List ℕ
+  right_division b a = unleft (separated s.bits b (right_half s a))

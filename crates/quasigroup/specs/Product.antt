@@ -2,7 +2,7 @@
 use Rattle.std.specs.Prelude.{cond, List, [], ◌∷◌, map, ℕ, ◌+◌, ◌%◌, ◌^◌, eqb, get_or, replicate}
 use Rattle.std.specs.Int.Bits.{bit_xor}
 use Rattle.word.specs.Word.{plus, rotl}
-use Rattle.quasigroup.specs.Tables.{Width, leftSums, rightSums}
+use Rattle.quasigroup.specs.Tables.{Width, left_sums, right_sums}
 
 -- the words of v with the numbers listed
 abbrev pub pick : List ℕ → List ℕ → List ℕ
@@ -60,10 +60,10 @@ joined w a b = map (λ i. plus w (get_or a i 0) (get_or b i 0)) (3 ∷ 4 ∷ 5 �
 
 module _ (s : Width) where
   unfoldable pub left_half : List ℕ → List ℕ
-  left_half x = half s.bits s.leftConstant s.leftAmounts leftSums x
+  left_half x = half s.bits s.left_constant s.left_amounts left_sums x
 
   unfoldable pub right_half : List ℕ → List ℕ
-  right_half y = half s.bits s.rightConstant s.rightAmounts rightSums y
+  right_half y = half s.bits s.right_constant s.right_amounts right_sums y
 
   -- X*Y
   unfoldable pub product : List ℕ → List ℕ → List ℕ

@@ -2,8 +2,8 @@
 use Rattle.std.specs.Prelude.{Bool, cond, ◌||◌, List, [], ◌∷◌, ℕ, eqb, get_or}
 
 -- the numbers of the words in sums 0 to 7 over X
-abbrev pub leftSums : List (List ℕ)
-leftSums =
+abbrev pub left_sums : List (List ℕ)
+left_sums =
     (0 ∷ 1 ∷ 2 ∷ 4 ∷ 7 ∷ [])
     ∷ (0 ∷ 1 ∷ 3 ∷ 4 ∷ 7 ∷ [])
     ∷ (0 ∷ 1 ∷ 4 ∷ 6 ∷ 7 ∷ [])
@@ -15,8 +15,8 @@ leftSums =
     ∷ []
 
 -- the same over Y
-abbrev pub rightSums : List (List ℕ)
-rightSums =
+abbrev pub right_sums : List (List ℕ)
+right_sums =
     (0 ∷ 1 ∷ 2 ∷ 5 ∷ 7 ∷ [])
     ∷ (0 ∷ 1 ∷ 3 ∷ 4 ∷ 6 ∷ [])
     ∷ (0 ∷ 1 ∷ 2 ∷ 3 ∷ 5 ∷ [])
@@ -39,20 +39,20 @@ amounts =
 -- what differs from width to width: the word's length in bits, and each half's constant and rotation amounts
 pub record Width : Type 0 where
   pub bits : ℕ
-  pub leftConstant : ℕ
-  pub rightConstant : ℕ
-  pub leftAmounts : List ℕ
-  pub rightAmounts : List ℕ
+  pub left_constant : ℕ
+  pub right_constant : ℕ
+  pub left_amounts : List ℕ
+  pub right_amounts : List ℕ
 
 -- 001, Table 2.1
 abbrev pub width32 : Width
 width32 =
     record {
       bits = 32;
-      leftConstant = 0xaaaa_aaaa;
-      rightConstant = 0x5555_5555;
-      leftAmounts = get_or amounts 0 [];
-      rightAmounts = get_or amounts 1 [];
+      left_constant = 0xaaaa_aaaa;
+      right_constant = 0x5555_5555;
+      left_amounts = get_or amounts 0 [];
+      right_amounts = get_or amounts 1 [];
     }
 
 -- 001, Table 2.2
@@ -60,10 +60,10 @@ abbrev pub width64 : Width
 width64 =
     record {
       bits = 64;
-      leftConstant = 0xaaaa_aaaa_aaaa_aaaa;
-      rightConstant = 0x5555_5555_5555_5555;
-      leftAmounts = get_or amounts 2 [];
-      rightAmounts = get_or amounts 3 [];
+      left_constant = 0xaaaa_aaaa_aaaa_aaaa;
+      right_constant = 0x5555_5555_5555_5555;
+      left_amounts = get_or amounts 2 [];
+      right_amounts = get_or amounts 3 [];
     }
 
 -- the width of 64 or else of 32 bits, by its number
@@ -71,5 +71,5 @@ abbrev pub width_of : ℕ → Width
 width_of w = cond (eqb w 64) width64 width32
 
 -- the widths that there are
-abbrev pub knownWidth : ℕ → Bool
-knownWidth w = eqb w 32 || eqb w 64
+abbrev pub known_width : ℕ → Bool
+known_width w = eqb w 32 || eqb w 64

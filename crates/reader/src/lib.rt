@@ -1,6 +1,6 @@
 // The code that reads one command of a load sheet.
 ghost use Rattle.std.specs.Prelude.{◌≡◌, ◌<◌};
-ghost use Rattle.sheet.specs.Read.{size_of, twoPlaceCommand, twoPlaces, onePlaceCommand, onePlace, readAt};
+ghost use Rattle.sheet.specs.Read.{size_of, two_place_command, two_places, one_place_command, one_place, read_at};
 ghost use Rattle.sheet.specs.Read.{got as gotOf};
 
 use answer::Refusal;
@@ -42,7 +42,7 @@ fn got(c: Command, next: usize) -> Read
 
 // The command of two places with its opcode.
 fn two_place_command(opcode: u8, p: Places) -> Command
-    ensures { result ≡ twoPlaceCommand opcode p }
+    ensures { result ≡ two_place_command opcode p }
 {
     match opcode {
         1 => Command::Lmul(p),
@@ -55,7 +55,7 @@ fn two_place_command(opcode: u8, p: Places) -> Command
 
 // What stands where a command of two places was found; `next` is the offset behind it.
 fn two_places(opcode: u8, p: Places, next: usize) -> Read
-    ensures { result ≡ twoPlaces opcode p next }
+    ensures { result ≡ two_places opcode p next }
 {
     if PLACES <= p.d {
         return Read::Fault(Refusal::Place);
@@ -71,7 +71,7 @@ fn two_places(opcode: u8, p: Places, next: usize) -> Read
 
 // The command of one place with its opcode; `k` is the offset behind the place.
 fn one_place_command(opcode: u8, d: usize, k: usize) -> Command
-    ensures { result ≡ onePlaceCommand opcode d k }
+    ensures { result ≡ one_place_command opcode d k }
 {
     match opcode {
         6 => Command::Flip(d),
@@ -82,7 +82,7 @@ fn one_place_command(opcode: u8, d: usize, k: usize) -> Command
 
 // What stands where a command of one place was found; `next` is the offset behind it.
 fn one_place(opcode: u8, d: usize, k: usize, next: usize) -> Read
-    ensures { result ≡ onePlace opcode d k next }
+    ensures { result ≡ one_place opcode d k next }
 {
     if PLACES <= d {
         return Read::Fault(Refusal::Place);
@@ -92,7 +92,7 @@ fn one_place(opcode: u8, d: usize, k: usize, next: usize) -> Read
 
 // What stands at the offset `at` of a sheet.
 pub fn read_command(width: u32, sheet: &[u8], at: usize) -> Read
-    ensures { result ≡ readAt width sheet.now at }
+    ensures { result ≡ read_at width sheet.now at }
 {
     if sheet.len() <= at {
         return Read::End;

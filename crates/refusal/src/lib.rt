@@ -1,7 +1,7 @@
 // What the operations of a hash answer: every refusal of both kinds, by numbers alone. `small` and `large` are a kind's two sizes.
 ghost use Rattle.std.specs.Prelude.{◌≡◌, ◌/◌, ltb};
-ghost use Rattle.digest.specs.Kind.{knownSize, kindFor};
-ghost use Rattle.digest.specs.Refusals.{isSize, inForm, opening, feeding, delivering, finishingBits, digesting};
+ghost use Rattle.digest.specs.Kind.{known_size, kind_for};
+ghost use Rattle.digest.specs.Refusals.{is_size, in_form, opening, feeding, delivering, finishing_bits, digesting};
 
 use answer::{Answer, Refusal};
 
@@ -9,7 +9,7 @@ use answer::{Answer, Refusal};
 pub const LIMIT: u64 = 2305843009213693951;
 
 pub fn is_size(small: u64, large: u64, size: u64) -> bool
-    ensures { result ≡ isSize small large size }
+    ensures { result ≡ is_size small large size }
 {
     if size == small {
         return true;
@@ -19,7 +19,7 @@ pub fn is_size(small: u64, large: u64, size: u64) -> bool
 
 // Whether `size` is one of the four.
 pub fn is_known(size: u32) -> bool
-    ensures { result ≡ knownSize (kindFor size) size }
+    ensures { result ≡ known_size (kind_for size) size }
 {
     if is_size(384, 512, size as u64) {
         return true;
@@ -28,7 +28,7 @@ pub fn is_known(size: u32) -> bool
 }
 
 fn in_form(small: u64, large: u64, size: u64, total: u64) -> bool
-    ensures { result ≡ inForm small large size total }
+    ensures { result ≡ in_form small large size total }
 {
     if is_size(small, large, size) {
         return total <= LIMIT;
@@ -76,7 +76,7 @@ fn delivering(size: u64, room: usize) -> Answer
 
 // Both tests behind that of the state are locals, so that the order of the refusals is the order of the three ifs and nothing else.
 pub fn finishing(small: u64, large: u64, size: u64, total: u64, count: u32, room: usize) -> Answer
-    ensures { result ≡ finishingBits small large size total count room }
+    ensures { result ≡ finishing_bits small large size total count room }
 {
     let over = 7 < count;
     let short = is_short(size, room);

@@ -19,13 +19,13 @@ at_most [] y = omega arith
 at_most (a ∷ x) [] = omega arith
 at_most (a ∷ x) (b ∷ y) = by_first (λ n. n ≤ suc (length x)) a b x y (λ _. omega (arith, at_most x y)) (λ _. omega arith)
 
-pub same-before : (x y : List ℕ) (j : ℕ) → j < agreeing x y → get_or x j 0 ≡ get_or y j 0
-same-before [] y j h = absurd (omega arith)
-same-before (a ∷ x) [] j h = absurd (omega arith)
-same-before (a ∷ x) (b ∷ y) zero h =
+pub same_before : (x y : List ℕ) (j : ℕ) → j < agreeing x y → get_or x j 0 ≡ get_or y j 0
+same_before [] y j h = absurd (omega arith)
+same_before (a ∷ x) [] j h = absurd (omega arith)
+same_before (a ∷ x) (b ∷ y) zero h =
     by_first (λ n. 0 < n → a ≡ b) a b x y (λ e _. e) (λ _ h. absurd (omega (arith, h))) h
-same-before (a ∷ x) (b ∷ y) (suc j) h =
-    by_first (λ n. suc j < n → get_or x j 0 ≡ get_or y j 0) a b x y (λ _ h. same-before x y j (omega (arith, h))) (λ _ h. absurd (omega (arith, h))) h
+same_before (a ∷ x) (b ∷ y) (suc j) h =
+    by_first (λ n. suc j < n → get_or x j 0 ≡ get_or y j 0) a b x y (λ _ h. same_before x y j (omega (arith, h))) (λ _ h. absurd (omega (arith, h))) h
 
 -- a number up to which the words are the same, and at which they differ, if there is one, is that number
 pub agrees : (x y : List ℕ) (n : ℕ) → length x ≡ length y → n ≤ length x → ((j : ℕ) → j < n → get_or x j 0 ≡ get_or y j 0)
@@ -48,20 +48,20 @@ differs_at (a ∷ x) (b ∷ y) l h e =
 
 -- ---- all of them
 
-pub agree-self : (x : List ℕ) → agreeing x x ≡ length x
-agree-self x = agrees x x (length x) refl (omega arith) (λ j h. refl) (λ h. absurd (omega (arith, h)))
+pub agree_self : (x : List ℕ) → agreeing x x ≡ length x
+agree_self x = agrees x x (length x) refl (omega arith) (λ j h. refl) (λ h. absurd (omega (arith, h)))
 
-pub agree-all : (x y : List ℕ) → length x ≡ length y → agreeing x y ≡ length x → x ≡ y
-agree-all [] [] l e = refl
-agree-all [] (b ∷ y) l e = absurd (omega (arith, l))
-agree-all (a ∷ x) [] l e = absurd (omega (arith, l))
-agree-all (a ∷ x) (b ∷ y) l e =
+pub agree_all : (x y : List ℕ) → length x ≡ length y → agreeing x y ≡ length x → x ≡ y
+agree_all [] [] l e = refl
+agree_all [] (b ∷ y) l e = absurd (omega (arith, l))
+agree_all (a ∷ x) [] l e = absurd (omega (arith, l))
+agree_all (a ∷ x) (b ∷ y) l e =
     by_first (λ n. n ≡ suc (length x) → a ∷ x ≡ b ∷ y) a b x y
-    (λ d e. ap₂ {C = List ℕ} (λ c z. c ∷ z) d (agree-all x y (omega (arith, l)) (omega (arith, e)))) (λ _ e. absurd (omega (arith, e))) e
+    (λ d e. ap₂ {C = List ℕ} (λ c z. c ∷ z) d (agree_all x y (omega (arith, l)) (omega (arith, e)))) (λ _ e. absurd (omega (arith, e))) e
 
 -- a test that tells whether two lists of n words are the same
 pub tells : (t : Bool) (x y : List ℕ) (n : ℕ) → length x ≡ n → length y ≡ n → (t ≡ true → x ≡ y) → (t ≡ false → x ≡ y → ⊥) → t ≡ eqb (agreeing x y) n
 tells true x y n lx ly f g =
-    sym (eq-eqb (agreeing x y) n (ap (λ (z : List ℕ). agreeing x z) (sym (f refl)) ∙ agree-self x ∙ lx))
+    sym (eq-eqb (agreeing x y) n (ap (λ (z : List ℕ). agreeing x z) (sym (f refl)) ∙ agree_self x ∙ lx))
 tells false x y n lx ly f g =
-    sym (ne_eqb (agreeing x y) n (λ e. g refl (agree-all x y (lx ∙ sym ly) (e ∙ sym lx))))
+    sym (ne_eqb (agreeing x y) n (λ e. g refl (agree_all x y (lx ∙ sym ly) (e ∙ sym lx))))

@@ -13,69 +13,69 @@ use lib.Seq.{take_all, take_at, drop-append-add, get_or-append-add}
 use Rattle.answer.specs.declared.Answer.{Answer}
 use Rattle.answer.specs.declared.Answer.TheVariants as Answers
 use Rattle.answer.specs.declared.Refusal.TheVariants.{Records, RecordCount}
-use Rattle.answer.specs.Refuse.{unless, isDone}
-use Rattle.answer.proofs.Refuse.{done-outcome, unless-done}
+use Rattle.answer.specs.Refuse.{unless, is_done}
+use Rattle.answer.proofs.Refuse.{done_outcome, unless_done}
 use Rattle.answer.proofs.Tests.{split}
 use Rattle.memory.specs.Bytes.{Bytes}
-use Rattle.memory.proofs.Bytes.{no_bytes, append-bytes}
+use Rattle.memory.proofs.Bytes.{no_bytes, append_bytes}
 use Rattle.quasigroup.proofs.Widths.{Bytewise, bytewise}
-use Rattle.sheet.specs.Read.{placeCount}
-use Rattle.sheet.specs.Sheet.{Sound, plan_of, commandCount}
+use Rattle.sheet.specs.Read.{place_count}
+use Rattle.sheet.specs.Sheet.{Sound, plan_of, command_count}
 use Rattle.sheet.specs.Effect.{at}
-use Rattle.sheet.specs.SheetAnswer.{sheetAnswer}
-use Rattle.sheet.specs.Run.{vectorsIn, vectorBytes, runAnswer}
-use Rattle.sheet.proofs.Lent.{State, state-from, state-length, vectors-bytes, bytes-of-vectors}
-use Rattle.sheet.proofs.SheetAnswer.{passes, done-passed}
-use Rattle.sheet.proofs.FromStart.{state-after, offset-by, vectors-by, end-vectors}
-use Rattle.shuffle.specs.Shuffle.{recordLength, recordWords}
-use Rattle.shuffle.proofs.Widths.{sized, records-within}
+use Rattle.sheet.specs.SheetAnswer.{sheet_answer}
+use Rattle.sheet.specs.Run.{vectors_in, vector_bytes, run_answer}
+use Rattle.sheet.proofs.Lent.{State, state_from, state_length, vectors_bytes, bytes_of_vectors}
+use Rattle.sheet.proofs.SheetAnswer.{passes, done_passed}
+use Rattle.sheet.proofs.FromStart.{state_after_lem, offset_by, vectors_by, end_vectors}
+use Rattle.shuffle.specs.Shuffle.{record_length, record_words}
+use Rattle.shuffle.proofs.Widths.{sized, records_within}
 use Rattle.replay.specs.declared.Finding.{Finding}
 use Rattle.replay.specs.declared.ReplayAnswer.{ReplayAnswer}
 use Rattle.replay.specs.declared.ReplayAnswer.TheVariants.{Holds, FirstFalse, Refused}
-use Rattle.replay.specs.Difference.{inOrder, recordAt, agreeing, same_words, difference}
-use Rattle.replay.specs.Replay.{stateBy, recorded, replayed, firstFalse, recordCount, recordTests, replayTests, answered, is_refused}
-use Rattle.replay.specs.Findings.{recordBytes, recordWord, stateBytes, stateWord, IsTrue, AllTrue, Named, Says}
-use Rattle.replay.specs.Findings.{ReplaysFind, RecordsApart, recordingFrom, RecordingsHold, StatesAreRuns}
-use Rattle.replay.proofs.Agreeing.{at_most, same-before, differs_at, agree-self, agree-all}
-use Rattle.replay.proofs.Refusals.{replays-refuse}
-use Rattle.replay.proofs.Words.{record-below, record-length, record-vectors, same-records, same_bytes}
+use Rattle.replay.specs.Difference.{words_in_order, record_at, agreeing, same_words, difference}
+use Rattle.replay.specs.Replay.{state_by, recorded, replayed, first_false, record_count, record_tests, replay_tests, answered, is_refused}
+use Rattle.replay.specs.Findings.{record_bytes, record_word, state_bytes, state_word, IsTrue, AllTrue, Named, Says}
+use Rattle.replay.specs.Findings.{ReplaysFind, RecordsApart, recording_from, RecordingsHold, StatesAreRuns}
+use Rattle.replay.proofs.Agreeing.{at_most, same_before, differs_at, agree_self, agree_all}
+use Rattle.replay.proofs.Refusals.{replays_refuse}
+use Rattle.replay.proofs.Words.{record_below, record_length_lem, record_vectors, same_records, same_bytes}
 
 -- ---- a word by its place and number
 
 in_order : (v : List (List ℕ)) → ((i : ℕ) → i < length v → length (at v i) ≡ 8) → (p n : ℕ) → p < length v → n < 8
-    → get_or (inOrder v) (p * 8 + n) 0 ≡ get_or (at v p) n 0
+    → get_or (words_in_order v) (p * 8 + n) 0 ≡ get_or (at v p) n 0
 in_order [] h p n hp hn = absurd (omega arith)
 in_order (x ∷ v) h zero n hp hn =
     let e : 0 * 8 + n ≡ n = omega arith in
-    ap (λ (i : ℕ). get_or (x ++ inOrder v) i 0) e ∙ get_or-append x (inOrder v) 0 n (omega (arith, h 0 (omega arith)))
+    ap (λ (i : ℕ). get_or (x ++ words_in_order v) i 0) e ∙ get_or-append x (words_in_order v) 0 n (omega (arith, h 0 (omega arith)))
 in_order (x ∷ v) h (suc p) n hp hn =
     let e : suc p * 8 + n ≡ length x + (p * 8 + n) = omega (arith, h 0 (omega arith)) in
-    ap (λ (i : ℕ). get_or (x ++ inOrder v) i 0) e ∙ get_or-append-add x (inOrder v) (p * 8 + n) 0
+    ap (λ (i : ℕ). get_or (x ++ words_in_order v) i 0) e ∙ get_or-append-add x (words_in_order v) (p * 8 + n) 0
     ∙ in_order v (λ i l. h (suc i) (omega (arith, l))) p n (omega arith) hn
 
-word-in-order : {w : ℕ} {v : List (List ℕ)} → State placeCount w v → (p n : ℕ) → p < 8 → n < 8 → get_or (inOrder v) (p * 8 + n) 0 ≡ get_or (at v p) n 0
-word-in-order {v = v} st p n hp hn = in_order v (λ i l. (st.each i (omega (arith, l, st.size))).size) p n (omega (arith, st.size)) hn
+word_in_order : {w : ℕ} {v : List (List ℕ)} → State place_count w v → (p n : ℕ) → p < 8 → n < 8 → get_or (words_in_order v) (p * 8 + n) 0 ≡ get_or (at v p) n 0
+word_in_order {v = v} st p n hp hn = in_order v (λ i l. (st.each i (omega (arith, l, st.size))).size) p n (omega (arith, st.size)) hn
 
 -- ---- one record
 
 module _ (w : ℕ) (hw : Bytewise w) (s : List ℕ) (hs : Bytes s) (b : List ℕ) (hb : Bytes b) (j : ℕ) where
   abbrev v : List (List ℕ)
-  v = (stateBy w s b (suc j)).vectors
+  v = (state_by w s b (suc j)).vectors
 
-  state : State placeCount w v
-  state = state-after w hw s hs b hb 0 (suc j)
+  state : State place_count w v
+  state = state_after_lem w hw s hs b hb 0 (suc j)
 
-  replayed-record : replayed w s b j ≡ recordAt w (stateBytes w s b j) 0
-  replayed-record = ap inOrder (sym (vectors-bytes w hw v state)) ∙ record-vectors w hw (stateBytes w s b j) 0
+  replayed_record : replayed w s b j ≡ record_at w (state_bytes w s b j) 0
+  replayed_record = ap words_in_order (sym (vectors_bytes w hw v state)) ∙ record_vectors w hw (state_bytes w s b j) 0
 
-  state-size : length (stateBytes w s b j) ≡ recordLength w
-  state-size = state-length w hw v state
+  state_size : length (state_bytes w s b j) ≡ record_length w
+  state_size = state_length w hw v state
 
-  state-whole : take (recordLength w) (stateBytes w s b j) ≡ stateBytes w s b j
-  state-whole = take_all (recordLength w) (stateBytes w s b j) (omega (arith, state-size))
+  state_whole : take (record_length w) (state_bytes w s b j) ≡ state_bytes w s b j
+  state_whole = take_all (record_length w) (state_bytes w s b j) (omega (arith, state_size))
 
-  replayed-length : length (replayed w s b j) ≡ recordWords
-  replayed-length = ap length replayed-record ∙ record-length w (stateBytes w s b j) 0
+  replayed_length : length (replayed w s b j) ≡ record_words
+  replayed_length = ap length replayed_record ∙ record_length_lem w (state_bytes w s b j) 0
 
   module _ (r : List ℕ) where
     abbrev x : List ℕ
@@ -84,73 +84,73 @@ module _ (w : ℕ) (hw : Bytewise w) (s : List ℕ) (hs : Bytes s) (b : List ℕ
     abbrev y : List ℕ
     y = replayed w s b j
 
-    x-length : length x ≡ recordWords
-    x-length = record-length w r (j * recordLength w)
+    x_length : length x ≡ record_words
+    x_length = record_length_lem w r (j * record_length w)
 
     same_length : length x ≡ length y
-    same_length = x-length ∙ sym replayed-length
+    same_length = x_length ∙ sym replayed_length
 
-    true-holds : IsTrue w s b r j → same_words x y ≡ true
-    true-holds e =
-        let same : x ≡ y = same-records w hw r (j * recordLength w) (stateBytes w s b j) 0 (e ∙ sym state-whole) ∙ sym replayed-record in
-        eq-eqb (agreeing x y) recordWords (ap (agreeing x) (sym same) ∙ agree-self x ∙ x-length)
+    true_holds : IsTrue w s b r j → same_words x y ≡ true
+    true_holds e =
+        let same : x ≡ y = same_records w hw r (j * record_length w) (state_bytes w s b j) 0 (e ∙ sym state_whole) ∙ sym replayed_record in
+        eq-eqb (agreeing x y) record_words (ap (agreeing x) (sym same) ∙ agree_self x ∙ x_length)
 
-    module _ (hr : Bytes r) (h : j < recordCount w r) where
-      within : j * recordLength w + recordLength w ≤ length r
+    module _ (hr : Bytes r) (h : j < record_count w r) where
+      within : j * record_length w + record_length w ≤ length r
       within =
-          let most = mul-le-mul_right {m = suc j} {n = recordCount w r} (recordLength w) (omega (arith, h)) in
-          omega (arith, records-within (recordLength w) r, suc-mul j (recordLength w), most)
+          let most = mul-le-mul_right {m = suc j} {n = record_count w r} (record_length w) (omega (arith, h)) in
+          omega (arith, records_within (record_length w) r, suc-mul j (record_length w), most)
 
-      holds-true : same_words x y ≡ true → IsTrue w s b r j
-      holds-true t =
-          let same : x ≡ y = agree-all x y same_length (eqb-true (agreeing x y) recordWords t ∙ sym x-length) in
-          same_bytes w hw r (j * recordLength w) (stateBytes w s b j) 0 hr (bytes-of-vectors w hw v) within (omega (arith, state-size)) (same ∙ replayed-record)
-          ∙ state-whole
+      holds_true : same_words x y ≡ true → IsTrue w s b r j
+      holds_true t =
+          let same : x ≡ y = agree_all x y same_length (eqb-true (agreeing x y) record_words t ∙ sym x_length) in
+          same_bytes w hw r (j * record_length w) (state_bytes w s b j) 0 hr (bytes_of_vectors w hw v) within (omega (arith, state_size)) (same ∙ replayed_record)
+          ∙ state_whole
 
-      recorded-word : (p n : ℕ) → p < 8 → n < 8 → get_or x (p * 8 + n) 0 ≡ recordWord w r j p n
-      recorded-word p n hp hn =
-          ap (λ (l : List ℕ). get_or l (p * 8 + n) 0) (sym (record-vectors w hw r (j * recordLength w)))
-          ∙ word-in-order (state-from w hw r hr placeCount (j * recordLength w)) p n hp hn
+      recorded_word : (p n : ℕ) → p < 8 → n < 8 → get_or x (p * 8 + n) 0 ≡ record_word w r j p n
+      recorded_word p n hp hn =
+          ap (λ (l : List ℕ). get_or l (p * 8 + n) 0) (sym (record_vectors w hw r (j * record_length w)))
+          ∙ word_in_order (state_from w hw r hr place_count (j * record_length w)) p n hp hn
 
-      replayed-word : (p n : ℕ) → p < 8 → n < 8 → get_or y (p * 8 + n) 0 ≡ stateWord w s b j p n
-      replayed-word = word-in-order state
+      replayed_word : (p n : ℕ) → p < 8 → n < 8 → get_or y (p * 8 + n) 0 ≡ state_word w s b j p n
+      replayed_word = word_in_order state
 
       -- the first word that differs
       module _ (f : same_words x y ≡ false) where
         abbrev i : ℕ
         i = agreeing x y
 
-        i-below : i < 64
-        i-below = let ne : i ≡ 64 → ⊥ = eqb-false i recordWords f in omega (arith, ne, at_most x y, x-length)
+        i_below : i < 64
+        i_below = let ne : i ≡ 64 → ⊥ = eqb-false i record_words f in omega (arith, ne, at_most x y, x_length)
 
         parts : i ≡ i / 8 * 8 + i % 8
         parts = omega arith
 
-        same_at : (p n : ℕ) → p < 8 → n < 8 → p * 8 + n < i → recordWord w r j p n ≡ stateWord w s b j p n
-        same_at p n hp hn l = sym (recorded-word p n hp hn) ∙ same-before x y (p * 8 + n) l ∙ replayed-word p n hp hn
+        same_at : (p n : ℕ) → p < 8 → n < 8 → p * 8 + n < i → record_word w r j p n ≡ state_word w s b j p n
+        same_at p n hp hn l = sym (recorded_word p n hp hn) ∙ same_before x y (p * 8 + n) l ∙ replayed_word p n hp hn
 
-        named : (plan_of w s).outcome ≡ Sound → j < commandCount w s → ((k : ℕ) → k < j → IsTrue w s b r k)
-            → Named w s b r j (difference (stateBy w s b j).offset x y)
+        named : (plan_of w s).outcome ≡ Sound → j < command_count w s → ((k : ℕ) → k < j → IsTrue w s b r k)
+            → Named w s b r j (difference (state_by w s b j).offset x y)
         named sound command before =
-            let p : i / 8 < 8 = omega (arith, i-below) in
+            let p : i / 8 < 8 = omega (arith, i_below) in
             let n : i % 8 < 8 = omega arith in
             record {
               within = h;
-              not-true = λ e. true≢false (sym (true-holds e) ∙ f);
+              not-true = λ e. true≢false (sym (true_holds e) ∙ f);
               before = before;
               command = command;
-              offset = offset-by w s (vectorsIn w b) sound j;
+              offset = offset_by w s (vectors_in w b) sound j;
               place = p;
               word = n;
-              found = ap (λ (k : ℕ). get_or x k 0) parts ∙ recorded-word (i / 8) (i % 8) p n;
-              expected = ap (λ (k : ℕ). get_or y k 0) parts ∙ replayed-word (i / 8) (i % 8) p n;
-              found-bits = record-below w hw r hr (j * recordLength w) i;
-              expected-bits =
-                  subst (λ (l : List ℕ). get_or l i 0 < 2 ^ w) (sym replayed-record)
-                  (record-below w hw (stateBytes w s b j) (bytes-of-vectors w hw v) 0 i);
-              differ = differs_at x y same_length (omega (arith, i-below, x-length));
-              places-before = λ q m hq hm. same_at q m (omega (arith, hq, p)) hm (omega (arith, hq, hm));
-              words-before = λ m hm. same_at (i / 8) m p (omega (arith, hm, n)) (omega (arith, hm));
+              found = ap (λ (k : ℕ). get_or x k 0) parts ∙ recorded_word (i / 8) (i % 8) p n;
+              expected = ap (λ (k : ℕ). get_or y k 0) parts ∙ replayed_word (i / 8) (i % 8) p n;
+              found_bits = record_below w hw r hr (j * record_length w) i;
+              expected_bits =
+                  subst (λ (l : List ℕ). get_or l i 0 < 2 ^ w) (sym replayed_record)
+                  (record_below w hw (state_bytes w s b j) (bytes_of_vectors w hw v) 0 i);
+              differ = differs_at x y same_length (omega (arith, i_below, x_length));
+              places_before = λ q m hq hm. same_at q m (omega (arith, hq, p)) hm (omega (arith, hq, hm));
+              words_before = λ m hm. same_at (i / 8) m p (omega (arith, hm, n)) (omega (arith, hm));
             }
 
 -- ---- all of them
@@ -158,171 +158,171 @@ module _ (w : ℕ) (hw : Bytewise w) (s : List ℕ) (hs : Bytes s) (b : List ℕ
 module _ (w : ℕ) (hw : Bytewise w) (s : List ℕ) (hs : Bytes s) (b : List ℕ) (hb : Bytes b) (r : List ℕ) where
   -- what is told of a record that does not hold
   abbrev told : ℕ → Finding
-  told k = difference (stateBy w s b k).offset (recorded w r k) (replayed w s b k)
+  told k = difference (state_by w s b k).offset (recorded w r k) (replayed w s b k)
 
   -- up to k and one more
   up_to : (k : ℕ) → ((i : ℕ) → i < k → IsTrue w s b r i) → IsTrue w s b r k → (i : ℕ) → i < suc k → Dec (i ≡ k) → IsTrue w s b r i
   up_to k h e i l (yes p) = subst (IsTrue w s b r) (sym p) e
   up_to k h e i l (no q) = h i (omega (arith, q))
 
-  says-from : Bytes r → (plan_of w s).outcome ≡ Sound → recordCount w r ≤ commandCount w s → (n k : ℕ) → k + n ≡ recordCount w r
-      → ((i : ℕ) → i < k → IsTrue w s b r i) → Says w s b r (firstFalse n w s b r k)
-  says-from hr sound few zero k e h = λ j l. h j (omega (arith, l))
-  says-from hr sound few (suc n) k e h =
-      let l : k < recordCount w r = omega arith in
+  says_from : Bytes r → (plan_of w s).outcome ≡ Sound → record_count w r ≤ command_count w s → (n k : ℕ) → k + n ≡ record_count w r
+      → ((i : ℕ) → i < k → IsTrue w s b r i) → Says w s b r (first_false n w s b r k)
+  says_from hr sound few zero k e h = λ j l. h j (omega (arith, l))
+  says_from hr sound few (suc n) k e h =
+      let l : k < record_count w r = omega arith in
       split (Says w s b r) (same_words (recorded w r k) (replayed w s b k)) _ _
       (λ t.
-      let now = holds-true w hw s hs b hb k r hr l t in
-      says-from hr sound few n (suc k) (omega arith) (λ i m. up_to k h now i m (ℕ_discrete i k)))
+      let now = holds_true w hw s hs b hb k r hr l t in
+      says_from hr sound few n (suc k) (omega arith) (λ i m. up_to k h now i m (ℕ_discrete i k)))
       (λ f. (k, refl, named w hw s hs b hb k r hr l f sound (omega (arith, l, few)) h))
 
-  holds-from : AllTrue w s b r → (n k : ℕ) → k + n ≡ recordCount w r → firstFalse n w s b r k ≡ Holds
-  holds-from h zero k e = refl
-  holds-from h (suc n) k e =
-      ap (λ (t : Bool). cond t (firstFalse n w s b r (suc k)) (FirstFalse (suc k) (told k))) (true-holds w hw s hs b hb k r (h k (omega arith)))
-      ∙ holds-from h n (suc k) (omega arith)
+  holds_from : AllTrue w s b r → (n k : ℕ) → k + n ≡ record_count w r → first_false n w s b r k ≡ Holds
+  holds_from h zero k e = refl
+  holds_from h (suc n) k e =
+      ap (λ (t : Bool). cond t (first_false n w s b r (suc k)) (FirstFalse (suc k) (told k))) (true_holds w hw s hs b hb k r (h k (omega arith)))
+      ∙ holds_from h n (suc k) (omega arith)
 
   -- k records from the one with m before it hold
-  skip : (k m n : ℕ) → ((i : ℕ) → i < m + k → IsTrue w s b r i) → firstFalse (k + n) w s b r m ≡ firstFalse n w s b r (m + k)
-  skip zero m n h = ap₂ {C = ReplayAnswer} (λ n m. firstFalse n w s b r m) (zero-add n) (sym (add-zero m))
+  skip : (k m n : ℕ) → ((i : ℕ) → i < m + k → IsTrue w s b r i) → first_false (k + n) w s b r m ≡ first_false n w s b r (m + k)
+  skip zero m n h = ap₂ {C = ReplayAnswer} (λ n m. first_false n w s b r m) (zero-add n) (sym (add-zero m))
   skip (suc k) m n h =
       let e : suc m + k ≡ m + suc k = omega arith in
-      ap (λ (n : ℕ). firstFalse n w s b r m) (suc-add k n)
-      ∙ ap (λ (t : Bool). cond t (firstFalse (k + n) w s b r (suc m)) (FirstFalse (suc m) (told m))) (true-holds w hw s hs b hb m r (h m (omega arith)))
-      ∙ skip k (suc m) n (λ i l. h i (omega (arith, l))) ∙ ap (firstFalse n w s b r) e
+      ap (λ (n : ℕ). first_false n w s b r m) (suc-add k n)
+      ∙ ap (λ (t : Bool). cond t (first_false (k + n) w s b r (suc m)) (FirstFalse (suc m) (told m))) (true_holds w hw s hs b hb m r (h m (omega arith)))
+      ∙ skip k (suc m) n (λ i l. h i (omega (arith, l))) ∙ ap (first_false n w s b r) e
 
 -- the same records from some number on
-alike : (w : ℕ) (s b r q : List ℕ) (n k : ℕ) → ((i : ℕ) → k ≤ i → recorded w q i ≡ recorded w r i) → firstFalse n w s b q k ≡ firstFalse n w s b r k
+alike : (w : ℕ) (s b r q : List ℕ) (n k : ℕ) → ((i : ℕ) → k ≤ i → recorded w q i ≡ recorded w r i) → first_false n w s b q k ≡ first_false n w s b r k
 alike w s b r q zero k h = refl
 alike w s b r q (suc n) k h =
     let e = h k (omega arith) in
     ap₂ {C = ReplayAnswer} (λ x rest. cond (same_words x (replayed w s b k)) rest
-    (FirstFalse (suc k) (difference (stateBy w s b k).offset x (replayed w s b k)))) e
+    (FirstFalse (suc k) (difference (state_by w s b k).offset x (replayed w s b k)))) e
     (alike w s b r q n (suc k) (λ i l. h i (omega (arith, l))))
 
 -- ---- behind the tests
 
-module _ (w : ℕ) (s b r : List ℕ) (t : isDone (replayTests w s b r) ≡ true) where
+module _ (w : ℕ) (s b r : List ℕ) (t : is_done (replay_tests w s b r) ≡ true) where
   known : Bytewise w
-  known = bytewise w (done-passed placeCount w _ s _ t).width
+  known = bytewise w (done_passed place_count w _ s _ t).width
 
   sound : (plan_of w s).outcome ≡ Sound
-  sound = (done-passed placeCount w _ s _ t).sheet
+  sound = (done_passed place_count w _ s _ t).sheet
 
-  enough : recordCount w r ≤ commandCount w s
+  enough : record_count w r ≤ command_count w s
   enough =
-      let whole = eqb (length r % recordLength w) 0 in
-      let few = leb (recordCount w r) (commandCount w s) in
-      let tests = passes placeCount w _ s (recordTests w (length r) (commandCount w s)) (done-passed placeCount w _ s _ t) in
-      let rest = (unless-done whole Records (unless few RecordCount (Answers.Done 0)) (ap isDone tests ∙ t)).1 in
-      leb-true (recordCount w r) (commandCount w s) (unless-done few RecordCount (Answers.Done 0) rest).0
+      let whole = eqb (length r % record_length w) 0 in
+      let few = leb (record_count w r) (command_count w s) in
+      let tests = passes place_count w _ s (record_tests w (length r) (command_count w s)) (done_passed place_count w _ s _ t) in
+      let rest = (unless_done whole Records (unless few RecordCount (Answers.Done 0)) (ap is_done tests ∙ t)).1 in
+      leb-true (record_count w r) (command_count w s) (unless_done few RecordCount (Answers.Done 0) rest).0
 
-done-answer : (a : Answer) (x : ReplayAnswer) → isDone a ≡ true → answered a x ≡ x
-done-answer (Answers.Done n) x e = refl
-done-answer (Answers.Refused q i) x e = absurd (false≢true e)
+done_answer : (a : Answer) (x : ReplayAnswer) → is_done a ≡ true → answered a x ≡ x
+done_answer (Answers.Done n) x e = refl
+done_answer (Answers.Refused q i) x e = absurd (false≢true e)
 
-says-by : (w : ℕ) (s b r : List ℕ) → Bytes s → Bytes b → Bytes r → (a : Answer) → replayTests w s b r ≡ a
-    → Says w s b r (answered a (firstFalse (recordCount w r) w s b r 0))
-says-by w s b r hs hb hr (Answers.Refused q i) e = e
-says-by w s b r hs hb hr (Answers.Done n) e =
-    let t = ap isDone e in
-    says-from w (known w s b r t) s hs b hb r hr (sound w s b r t) (enough w s b r t) (recordCount w r) 0 (zero-add (recordCount w r))
+says_by : (w : ℕ) (s b r : List ℕ) → Bytes s → Bytes b → Bytes r → (a : Answer) → replay_tests w s b r ≡ a
+    → Says w s b r (answered a (first_false (record_count w r) w s b r 0))
+says_by w s b r hs hb hr (Answers.Refused q i) e = e
+says_by w s b r hs hb hr (Answers.Done n) e =
+    let t = ap is_done e in
+    says_from w (known w s b r t) s hs b hb r hr (sound w s b r t) (enough w s b r t) (record_count w r) 0 (zero-add (record_count w r))
     (λ i l. absurd (omega (arith, l)))
 
-tests-done : (a : Answer) (x : ReplayAnswer) → is_refused (answered a x) ≡ false → isDone a ≡ true
-tests-done (Answers.Done n) x e = refl
-tests-done (Answers.Refused q i) x e = absurd (true≢false e)
+tests_done : (a : Answer) (x : ReplayAnswer) → is_refused (answered a x) ≡ false → is_done a ≡ true
+tests_done (Answers.Done n) x e = refl
+tests_done (Answers.Refused q i) x e = absurd (true≢false e)
 
-pub replays-find : ReplaysFind
-replays-find w s b r hs hb hr =
+pub replays_find : ReplaysFind
+replays_find w s b r hs hb hr =
     record {
-      says = says-by w s b r hs hb hr (replayTests w s b r) refl;
-      holds-if = λ e h.
-          let t = tests-done (replayTests w s b r) (firstFalse (recordCount w r) w s b r 0) e in
-          done-answer (replayTests w s b r) (firstFalse (recordCount w r) w s b r 0) t
-          ∙ holds-from w (known w s b r t) s hs b hb r h (recordCount w r) 0 (zero-add (recordCount w r));
+      says = says_by w s b r hs hb hr (replay_tests w s b r) refl;
+      holds_if = λ e h.
+          let t = tests_done (replay_tests w s b r) (first_false (record_count w r) w s b r 0) e in
+          done_answer (replay_tests w s b r) (first_false (record_count w r) w s b r 0) t
+          ∙ holds_from w (known w s b r t) s hs b hb r h (record_count w r) 0 (zero-add (record_count w r));
     }
 
 -- ---- a false record by itself
 
-not-refused : (a : Answer) (x : ReplayAnswer) (n : ℕ) (f : Finding) → answered a x ≡ FirstFalse n f → isDone a ≡ true
-not-refused (Answers.Done m) x n f e = refl
-not-refused (Answers.Refused q i) x n f e = let z : ◌≡◌ {A = ℕ} 0 1 = cc in absurd (omega arith)
+not_refused : (a : Answer) (x : ReplayAnswer) (n : ℕ) (f : Finding) → answered a x ≡ FirstFalse n f → is_done a ≡ true
+not_refused (Answers.Done m) x n f e = refl
+not_refused (Answers.Refused q i) x n f e = let z : ◌≡◌ {A = ℕ} 0 1 = cc in absurd (omega arith)
 
-the-named : (w : ℕ) (s b r : List ℕ) (j : ℕ) (f : Finding) → Says w s b r (FirstFalse (suc j) f) → Named w s b r j f
-the-named w s b r j f h = let e : h.0 ≡ j = omega (arith, h.1) in subst (λ (i : ℕ). Named w s b r i f) e h.2
+the_named : (w : ℕ) (s b r : List ℕ) (j : ℕ) (f : Finding) → Says w s b r (FirstFalse (suc j) f) → Named w s b r j f
+the_named w s b r j f h = let e : h.0 ≡ j = omega (arith, h.1) in subst (λ (i : ℕ). Named w s b r i f) e h.2
 
-pub records-apart : RecordsApart
-records-apart w s b r q j f hs hb hr e l same now =
-    let first = firstFalse (recordCount w r) w s b r 0 in
-    let t = not-refused (replayTests w s b r) first (suc j) f e in
+pub records_apart : RecordsApart
+records_apart w s b r q j f hs hb hr e l same now =
+    let first = first_false (record_count w r) w s b r 0 in
+    let t = not_refused (replay_tests w s b r) first (suc j) f e in
     let hw = known w s b r t in
-    let named = the-named w s b r j f (subst (Says w s b r) e (replays-find w s b r hs hb hr).says) in
-    let n = recordCount w r - suc j in
-    let count : recordCount w q ≡ suc j + n = ap (λ (m : ℕ). m / recordLength w) l ∙ omega (arith, named.within) in
+    let named = the_named w s b r j f (subst (Says w s b r) e (replays_find w s b r hs hb hr).says) in
+    let n = record_count w r - suc j in
+    let count : record_count w q ≡ suc j + n = ap (λ (m : ℕ). m / record_length w) l ∙ omega (arith, named.within) in
     let start : 0 + suc j ≡ suc j = omega arith in
     let before : (i : ℕ) → i < 0 + suc j → IsTrue w s b q i = λ i h.
     up_to w hw s hs b hb q j (λ i h. same i (λ p. omega (arith, p, h)) ∙ named.before i h) now i (omega (arith, h)) (ℕ_discrete i j) in
     let rows : (i : ℕ) → suc j ≤ i → recorded w q i ≡ recorded w r i = λ i h.
-    same-records w hw q (i * recordLength w) r (i * recordLength w) (same i (λ p. omega (arith, p, h))) in
-    done-answer (replayTests w s b q) (firstFalse (recordCount w q) w s b q 0)
-    (ap (λ (m : ℕ). isDone (sheetAnswer w (eqb (length b) (placeCount * w)) s (recordTests w m (commandCount w s)))) l ∙ t)
-    ∙ ap (λ (m : ℕ). firstFalse m w s b q 0) count
+    same_records w hw q (i * record_length w) r (i * record_length w) (same i (λ p. omega (arith, p, h))) in
+    done_answer (replay_tests w s b q) (first_false (record_count w q) w s b q 0)
+    (ap (λ (m : ℕ). is_done (sheet_answer w (eqb (length b) (place_count * w)) s (record_tests w m (command_count w s)))) l ∙ t)
+    ∙ ap (λ (m : ℕ). first_false m w s b q 0) count
     ∙ skip w hw s hs b hb q (suc j) 0 n before
-    ∙ ap (firstFalse n w s b q) start
+    ∙ ap (first_false n w s b q) start
     ∙ alike w s b r q n (suc j) rows
 
 -- ---- the records that the run itself leaves
 
 module _ (w : ℕ) (hw : Bytewise w) (s : List ℕ) (hs : Bytes s) (b : List ℕ) (hb : Bytes b) where
-  recording-length : (n k : ℕ) → length (recordingFrom n w s b k) ≡ n * recordLength w
-  recording-length zero k = sym (zero-mul (recordLength w))
-  recording-length (suc n) k =
-      length-append (stateBytes w s b k) (recordingFrom n w s b (suc k))
-      ∙ ap₂ {C = ℕ} ◌+◌ (state-size w hw s hs b hb k) (recording-length n (suc k)) ∙ omega (arith, suc-mul n (recordLength w))
+  recording_length : (n k : ℕ) → length (recording_from n w s b k) ≡ n * record_length w
+  recording_length zero k = sym (zero-mul (record_length w))
+  recording_length (suc n) k =
+      length-append (state_bytes w s b k) (recording_from n w s b (suc k))
+      ∙ ap₂ {C = ℕ} ◌+◌ (state_size w hw s hs b hb k) (recording_length n (suc k)) ∙ omega (arith, suc-mul n (record_length w))
 
-  recording-bytes : (n k : ℕ) → Bytes (recordingFrom n w s b k)
-  recording-bytes zero k = no_bytes
-  recording-bytes (suc n) k =
-      append-bytes (stateBytes w s b k) (recordingFrom n w s b (suc k)) (bytes-of-vectors w hw (stateBy w s b (suc k)).vectors) (recording-bytes n (suc k))
+  recording_bytes : (n k : ℕ) → Bytes (recording_from n w s b k)
+  recording_bytes zero k = no_bytes
+  recording_bytes (suc n) k =
+      append_bytes (state_bytes w s b k) (recording_from n w s b (suc k)) (bytes_of_vectors w hw (state_by w s b (suc k)).vectors) (recording_bytes n (suc k))
 
-  recording-at : (n k j : ℕ) → j < n → recordBytes w (recordingFrom n w s b k) j ≡ stateBytes w s b (k + j)
-  recording-at zero k j h = absurd (omega arith)
-  recording-at (suc n) k zero h =
-      let first = stateBytes w s b k in
-      let rest = recordingFrom n w s b (suc k) in
-      ap (λ (m : ℕ). take (recordLength w) (drop m (first ++ rest))) (zero-mul (recordLength w))
-      ∙ take_at first rest (recordLength w) (state-size w hw s hs b hb k) ∙ ap (stateBytes w s b) (sym (add-zero k))
-  recording-at (suc n) k (suc j) h =
-      let first = stateBytes w s b k in
-      let rest = recordingFrom n w s b (suc k) in
-      let m : suc j * recordLength w ≡ length first + j * recordLength w = omega (arith, suc-mul j (recordLength w), state-size w hw s hs b hb k) in
+  recording_at : (n k j : ℕ) → j < n → record_bytes w (recording_from n w s b k) j ≡ state_bytes w s b (k + j)
+  recording_at zero k j h = absurd (omega arith)
+  recording_at (suc n) k zero h =
+      let first = state_bytes w s b k in
+      let rest = recording_from n w s b (suc k) in
+      ap (λ (m : ℕ). take (record_length w) (drop m (first ++ rest))) (zero-mul (record_length w))
+      ∙ take_at first rest (record_length w) (state_size w hw s hs b hb k) ∙ ap (state_bytes w s b) (sym (add-zero k))
+  recording_at (suc n) k (suc j) h =
+      let first = state_bytes w s b k in
+      let rest = recording_from n w s b (suc k) in
+      let m : suc j * record_length w ≡ length first + j * record_length w = omega (arith, suc-mul j (record_length w), state_size w hw s hs b hb k) in
       let e : suc k + j ≡ k + suc j = omega arith in
-      ap (λ (m : ℕ). take (recordLength w) (drop m (first ++ rest))) m
-      ∙ ap (take (recordLength w)) (drop-append-add first rest (j * recordLength w))
-      ∙ recording-at n (suc k) j (omega arith) ∙ ap (stateBytes w s b) e
+      ap (λ (m : ℕ). take (record_length w) (drop m (first ++ rest))) m
+      ∙ ap (take (record_length w)) (drop-append-add first rest (j * record_length w))
+      ∙ recording_at n (suc k) j (omega arith) ∙ ap (state_bytes w s b) e
 
-pub recordings-hold : RecordingsHold
-recordings-hold w s b n hs hb t l =
-    let k = (done-passed placeCount w _ s _ t).width in
+pub recordings_hold : RecordingsHold
+recordings_hold w s b n hs hb t l =
+    let k = (done_passed place_count w _ s _ t).width in
     let hw = bytewise w k in
-    let r = recordingFrom n w s b 0 in
-    let size = recording-length w hw s hs b hb n 0 in
+    let r = recording_from n w s b 0 in
+    let size = recording_length w hw s hs b hb n 0 in
     let some = (sized w k).some in
-    let count : recordCount w r ≡ n = ap (λ (m : ℕ). m / recordLength w) size ∙ mul-div_cancel n some in
-    let whole : length r % recordLength w ≡ 0 = ap (λ (m : ℕ). m % recordLength w) size ∙ mul-mod_left n (recordLength w) in
-    (replays-find w s b r hs hb (recording-bytes w hw s hs b hb n 0)).holds-if
-    ((replays-refuse w s b r).others t whole (omega (arith, count, l)))
-    (λ j h. recording-at w hw s hs b hb n 0 j (omega (arith, count, h)) ∙ ap (stateBytes w s b) (zero-add j))
+    let count : record_count w r ≡ n = ap (λ (m : ℕ). m / record_length w) size ∙ mul-div_cancel n some in
+    let whole : length r % record_length w ≡ 0 = ap (λ (m : ℕ). m % record_length w) size ∙ mul-mod_left n (record_length w) in
+    (replays_find w s b r hs hb (recording_bytes w hw s hs b hb n 0)).holds_if
+    ((replays_refuse w s b r).others t whole (omega (arith, count, l)))
+    (λ j h. recording_at w hw s hs b hb n 0 j (omega (arith, count, h)) ∙ ap (state_bytes w s b) (zero-add j))
 
 -- ---- the states
 
-pub states-are-runs : StatesAreRuns
-states-are-runs w s b t =
-    let p = done-passed placeCount w _ s _ t in
+pub states_are_runs : StatesAreRuns
+states_are_runs w s b t =
+    let p = done_passed place_count w _ s _ t in
     record {
-      some = vectors-by w s (vectorsIn w b) p.sheet;
+      some = vectors_by w s (vectors_in w b) p.sheet;
       all =
-          ap (vectorBytes w) (end-vectors w s (vectorsIn w b) p.sheet (commandCount w s) (omega arith))
-          ∙ done-outcome (runAnswer w s b) _ b t;
+          ap (vector_bytes w) (end_vectors w s (vectors_in w b) p.sheet (command_count w s) (omega arith))
+          ∙ done_outcome (run_answer w s b) _ b t;
     }

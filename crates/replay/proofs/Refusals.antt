@@ -11,58 +11,58 @@ use Rattle.answer.specs.declared.Answer.{Answer}
 use Rattle.answer.specs.declared.Answer.TheVariants as Answers
 use Rattle.answer.specs.declared.Refusal.{Refusal}
 use Rattle.answer.specs.declared.Refusal.TheVariants.{Records, RecordCount}
-use Rattle.answer.specs.Refuse.{isDone}
+use Rattle.answer.specs.Refuse.{is_done}
 use Rattle.answer.proofs.Tests.{split}
-use Rattle.sheet.specs.Read.{placeCount}
-use Rattle.sheet.specs.Sheet.{commandCount}
-use Rattle.sheet.specs.Run.{runAnswer}
-use Rattle.sheet.proofs.SheetAnswer.{passes, done-passed, refused-alike}
-use Rattle.shuffle.specs.Shuffle.{recordLength}
+use Rattle.sheet.specs.Read.{place_count}
+use Rattle.sheet.specs.Sheet.{command_count}
+use Rattle.sheet.specs.Run.{run_answer}
+use Rattle.sheet.proofs.SheetAnswer.{passes, done_passed, refused_alike}
+use Rattle.shuffle.specs.Shuffle.{record_length}
 use Rattle.replay.specs.declared.ReplayAnswer.TheVariants.{Holds, Refused}
 use Rattle.replay.specs.Difference.{same_words}
-use Rattle.replay.specs.Replay.{recorded, replayed, firstFalse, recordCount, recordTests, replayTests, answered, replayAnswer, is_refused}
+use Rattle.replay.specs.Replay.{recorded, replayed, first_false, record_count, record_tests, replay_tests, answered, replay_answer, is_refused}
 use Rattle.replay.specs.Refusals.{ReplaysRefuse}
 
 -- what is found is no refusal
-not-refused : (w : ℕ) (s b r : List ℕ) (n k : ℕ) → is_refused (firstFalse n w s b r k) ≡ false
-not-refused w s b r zero k = refl
-not-refused w s b r (suc n) k =
-    split (λ a. is_refused a ≡ false) (same_words (recorded w r k) (replayed w s b k)) _ _ (λ _. not-refused w s b r n (suc k)) (λ _. refl)
+not_refused : (w : ℕ) (s b r : List ℕ) (n k : ℕ) → is_refused (first_false n w s b r k) ≡ false
+not_refused w s b r zero k = refl
+not_refused w s b r (suc n) k =
+    split (λ a. is_refused a ≡ false) (same_words (recorded w r k) (replayed w s b k)) _ _ (λ _. not_refused w s b r n (suc k)) (λ _. refl)
 
 module _ (w : ℕ) (s b : List ℕ) where
   -- behind a run's own tests those of the records decide
-  by-records : isDone (runAnswer w s b) ≡ true → (r : List ℕ) → replayTests w s b r ≡ recordTests w (length r) (commandCount w s)
-  by-records t r = sym (passes placeCount w _ s _ (done-passed placeCount w _ s _ t))
+  by_records : is_done (run_answer w s b) ≡ true → (r : List ℕ) → replay_tests w s b r ≡ record_tests w (length r) (command_count w s)
+  by_records t r = sym (passes place_count w _ s _ (done_passed place_count w _ s _ t))
 
   module _ (r : List ℕ) where
-    answers : {a : Answer} → replayTests w s b r ≡ a → replayAnswer w s b r ≡ answered a (firstFalse (recordCount w r) w s b r 0)
-    answers e = ap (λ (a : Answer). answered a (firstFalse (recordCount w r) w s b r 0)) e
+    answers : {a : Answer} → replay_tests w s b r ≡ a → replay_answer w s b r ≡ answered a (first_false (record_count w r) w s b r 0)
+    answers e = ap (λ (a : Answer). answered a (first_false (record_count w r) w s b r 0)) e
 
-    as-run : (q : Refusal) (i : ℕ) → runAnswer w s b ≡ Answers.Refused q i → replayAnswer w s b r ≡ Refused q i
-    as-run q i e = answers (sym (refused-alike placeCount w _ s _ (recordTests w (length r) (commandCount w s)) refl (ap isDone e)) ∙ e)
+    as_run : (q : Refusal) (i : ℕ) → run_answer w s b ≡ Answers.Refused q i → replay_answer w s b r ≡ Refused q i
+    as_run q i e = answers (sym (refused_alike place_count w _ s _ (record_tests w (length r) (command_count w s)) refl (ap is_done e)) ∙ e)
 
-    module _ (t : isDone (runAnswer w s b) ≡ true) where
-      partial : (length r % recordLength w ≡ 0 → ⊥) → replayAnswer w s b r ≡ Refused Records 0
-      partial h = answers {a = Answers.Refused Records 0} (by-records t r ∙ rw (ne_eqb (length r % recordLength w) 0 h))
+    module _ (t : is_done (run_answer w s b) ≡ true) where
+      partial : (length r % record_length w ≡ 0 → ⊥) → replay_answer w s b r ≡ Refused Records 0
+      partial h = answers {a = Answers.Refused Records 0} (by_records t r ∙ rw (ne_eqb (length r % record_length w) 0 h))
 
-      module _ (whole : length r % recordLength w ≡ 0) where
-        surplus : commandCount w s < recordCount w r → replayAnswer w s b r ≡ Refused RecordCount 0
-        surplus h = answers {a = Answers.Refused RecordCount 0} (by-records t r ∙ rw (eq-eqb (length r % recordLength w) 0 whole, lt-leb (recordCount w r) (commandCount w s) h))
+      module _ (whole : length r % record_length w ≡ 0) where
+        surplus : command_count w s < record_count w r → replay_answer w s b r ≡ Refused RecordCount 0
+        surplus h = answers {a = Answers.Refused RecordCount 0} (by_records t r ∙ rw (eq-eqb (length r % record_length w) 0 whole, lt-leb (record_count w r) (command_count w s) h))
 
-        passed : recordCount w r ≤ commandCount w s → replayTests w s b r ≡ Answers.Done 0
-        passed h = by-records t r ∙ rw (eq-eqb (length r % recordLength w) 0 whole, le-leb (recordCount w r) (commandCount w s) h)
+        passed : record_count w r ≤ command_count w s → replay_tests w s b r ≡ Answers.Done 0
+        passed h = by_records t r ∙ rw (eq-eqb (length r % record_length w) 0 whole, le-leb (record_count w r) (command_count w s) h)
 
-  none : isDone (runAnswer w s b) ≡ true → replayAnswer w s b [] ≡ Holds
+  none : is_done (run_answer w s b) ≡ true → replay_answer w s b [] ≡ Holds
   none t =
-      let z : recordCount w [] ≡ 0 = zero-div (recordLength w) in
-      answers [] (passed [] t (zero-mod (recordLength w)) (omega (arith, z))) ∙ ap (λ (n : ℕ). firstFalse n w s b [] 0) z
+      let z : record_count w [] ≡ 0 = zero-div (record_length w) in
+      answers [] (passed [] t (zero-mod (record_length w)) (omega (arith, z))) ∙ ap (λ (n : ℕ). first_false n w s b [] 0) z
 
-pub replays-refuse : ReplaysRefuse
-replays-refuse w s b r =
+pub replays_refuse : ReplaysRefuse
+replays_refuse w s b r =
     record {
-      as-run = as-run w s b r;
+      as_run = as_run w s b r;
       partial = partial w s b r;
       surplus = surplus w s b r;
-      others = λ t h l. ap is_refused (answers w s b r (passed w s b r t h l)) ∙ not-refused w s b r (recordCount w r) 0;
+      others = λ t h l. ap is_refused (answers w s b r (passed w s b r t h l)) ∙ not_refused w s b r (record_count w r) 0;
       none = none w s b;
     }

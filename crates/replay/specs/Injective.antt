@@ -2,13 +2,13 @@
 use Rattle.std.specs.Prelude.{◌≡◌, Bool, true, false, List, ℕ, ◌^◌, ◌≤◌, ◌<◌, eqb, leb}
 use Rattle.replay.specs.declared.ReplayAnswer.{ReplayAnswer}
 use Rattle.replay.specs.declared.ReplayAnswer.TheVariants.{Holds, FirstFalse, Refused}
-use Rattle.replay.specs.Replay.{replayAnswer, is_refused}
-use Rattle.replay.specs.Number.{replayNumber, findingAfter}
+use Rattle.replay.specs.Replay.{replay_answer, is_refused}
+use Rattle.replay.specs.Number.{replay_number, finding_after}
 
-abbrev pub isHolds : ReplayAnswer → Bool
-isHolds Holds = true
-isHolds (FirstFalse n f) = false
-isHolds (Refused r at) = false
+abbrev pub is_holds : ReplayAnswer → Bool
+is_holds Holds = true
+is_holds (FirstFalse n f) = false
+is_holds (Refused r at) = false
 
 -- the answers that there are: a record's number is from 1, and a sheet has 2,048 commands at most
 abbrev pub ReplayFits : ReplayAnswer → Type 0
@@ -18,11 +18,11 @@ ReplayFits (Refused r at) = at < 2 ^ 32
 
 -- every answer of a replay is one of these
 abbrev pub EveryReplayFits : Type 0
-EveryReplayFits = (w : ℕ) (s b r : List ℕ) → ReplayFits (replayAnswer w s b r)
+EveryReplayFits = (w : ℕ) (s b r : List ℕ) → ReplayFits (replay_answer w s b r)
 
 -- a number of 0 says that every record holds, one of 2^32 or more is a refusal; and no two answers share their number and what they leave in a finding
 pub record ReplayNumbersInjective : Type 0 where
-  pub holding : (a : ReplayAnswer) → ReplayFits a → isHolds a ≡ eqb (replayNumber a) 0
-  pub refusal : (a : ReplayAnswer) → ReplayFits a → is_refused a ≡ leb (2 ^ 32) (replayNumber a)
-  pub answer : (a b : ReplayAnswer) (old : List ℕ) → ReplayFits a → ReplayFits b → replayNumber a ≡ replayNumber b
-      → findingAfter a old ≡ findingAfter b old → a ≡ b
+  pub holding : (a : ReplayAnswer) → ReplayFits a → is_holds a ≡ eqb (replay_number a) 0
+  pub refusal : (a : ReplayAnswer) → ReplayFits a → is_refused a ≡ leb (2 ^ 32) (replay_number a)
+  pub answer : (a b : ReplayAnswer) (old : List ℕ) → ReplayFits a → ReplayFits b → replay_number a ≡ replay_number b
+      → finding_after a old ≡ finding_after b old → a ≡ b

@@ -7,16 +7,16 @@ use Rattle.replay.specs.declared.ReplayAnswer.{ReplayAnswer}
 use Rattle.replay.specs.declared.ReplayAnswer.TheVariants.{Holds, FirstFalse, Refused}
 
 -- 0 if every record holds, the number of the first false one, or a refusal's number as other calls have it
-abbrev pub replayNumber : ReplayAnswer → ℕ
-replayNumber Holds = 0
-replayNumber (FirstFalse n f) = n
-replayNumber (Refused r at) = number_of (Answers.Refused r at)
+abbrev pub replay_number : ReplayAnswer → ℕ
+replay_number Holds = 0
+replay_number (FirstFalse n f) = n
+replay_number (Refused r at) = number_of (Answers.Refused r at)
 
 abbrev pub values : Finding → List ℕ
 values f = f.offset ∷ f.place ∷ f.word ∷ f.found ∷ f.expected ∷ []
 
 -- the lent finding afterwards: written beside a false record only
-abbrev pub findingAfter : ReplayAnswer → List ℕ → List ℕ
-findingAfter Holds old = old
-findingAfter (FirstFalse n f) old = values f
-findingAfter (Refused r at) old = old
+abbrev pub finding_after : ReplayAnswer → List ℕ → List ℕ
+finding_after Holds old = old
+finding_after (FirstFalse n f) old = values f
+finding_after (Refused r at) old = old

@@ -1,7 +1,7 @@
 // Recorded runs, held against the run itself: a replay does the run again. Definitions in specs/, laws in proofs/, what a replay answers, and that answer for
 // C.
 ghost use Rattle.std.specs.Prelude.{◌≡◌};
-ghost use Rattle.replay.specs.Number.{replayNumber, findingAfter};
+ghost use Rattle.replay.specs.Number.{replay_number, finding_after};
 
 use answer::{Answer, Refusal};
 
@@ -25,8 +25,8 @@ pub enum ReplayAnswer {
 
 // The answer as C receives it: the one 64-bit number, and beside a false record the finding's five values.
 pub fn report(a: ReplayAnswer, finding: &mut [u64; 5]) -> u64
-    ensures value { result ≡ replayNumber a }
-    ensures finding_after { finding.new ≡ findingAfter a finding.old }
+    ensures value { result ≡ replay_number a }
+    ensures finding_after { finding.new ≡ finding_after a finding.old }
 {
     match a {
         ReplayAnswer::Holds => 0,

@@ -1,8 +1,8 @@
 // Replays: the records of a run are held against the run itself.
 ghost use Rattle.std.specs.Prelude.{◌≡◌, true, length};
-ghost use Rattle.quasigroup.specs.Tables.{knownWidth};
-ghost use Rattle.shuffle.specs.Shuffle.{recordLength};
-ghost use Rattle.replay.specs.Replay.{recordTests, replayAnswer};
+ghost use Rattle.quasigroup.specs.Tables.{known_width};
+ghost use Rattle.shuffle.specs.Shuffle.{record_length};
+ghost use Rattle.replay.specs.Replay.{record_tests, replay_answer};
 
 use answer::{Answer, Refusal};
 use replay::ReplayAnswer;
@@ -10,8 +10,8 @@ use sheet::Summary;
 
 // What the tests of `n` bytes of records answer, of a sheet with `commands` commands.
 fn records_answer(width: u32, n: usize, commands: usize) -> Answer
-    requires { knownWidth width ≡ true }
-    ensures { result ≡ recordTests width n commands }
+    requires { known_width width ≡ true }
+    ensures { result ≡ record_tests width n commands }
 {
     let size = 8 * (width as usize);
     let rest = n % size;
@@ -33,8 +33,8 @@ fn replay_at(
     records: &[u8],
     state: &mut [u8],
 ) -> ReplayAnswer
-    requires { (knownWidth width ≡ true) × (length state.old ≡ recordLength width) }
-    ensures { result ≡ replayAnswer width sheet.now vectors.now records.now }
+    requires { (known_width width ≡ true) × (length state.old ≡ record_length width) }
+    ensures { result ≡ replay_answer width sheet.now vectors.now records.now }
 {
     if !precheck::vectors_fit(width, vectors.len()) {
         return ReplayAnswer::Refused(Refusal::Operand, 0);
@@ -54,7 +54,7 @@ fn replay_at(
 
 // The first false record of a run of the sheet over the vectors, all of which stay as they are. One state serves both widths.
 pub fn first_false_record(width: u32, vectors: &[u8], sheet: &[u8], records: &[u8]) -> ReplayAnswer
-    ensures { result ≡ replayAnswer width sheet.now vectors.now records.now }
+    ensures { result ≡ replay_answer width sheet.now vectors.now records.now }
 {
     let mut state = [0u8; 512];
     if width == 32 {

@@ -1,17 +1,17 @@
 // Runs of a load sheet over lent vectors, forward and backward.
 ghost use Rattle.std.specs.Prelude.{◌≡◌, true};
-ghost use Rattle.quasigroup.specs.Tables.{knownWidth};
+ghost use Rattle.quasigroup.specs.Tables.{known_width};
 ghost use Rattle.invertible.specs.RoundTrip.{Forward, Backward};
-ghost use Rattle.sheet.specs.Run.{runAnswer, runBytes};
+ghost use Rattle.sheet.specs.Run.{run_answer, run_bytes};
 
 use answer::{Answer, Refusal};
 use sheet::{MOST, Summary};
 
 // A forward run at a width of document 01's.
 fn forward_at(width: u32, vectors: &mut [u8], sheet: &[u8]) -> Answer
-    requires { knownWidth width ≡ true }
-    ensures value { result ≡ runAnswer width sheet.now vectors.old }
-    ensures vectors_after { vectors.new ≡ runBytes Forward width sheet.now vectors.old }
+    requires { known_width width ≡ true }
+    ensures value { result ≡ run_answer width sheet.now vectors.old }
+    ensures vectors_after { vectors.new ≡ run_bytes Forward width sheet.now vectors.old }
 {
     if !precheck::vectors_fit(width, vectors.len()) {
         return Answer::Refused(Refusal::Operand, 0);
@@ -28,9 +28,9 @@ fn forward_at(width: u32, vectors: &mut [u8], sheet: &[u8]) -> Answer
 
 // A backward run at a width of document 01's. The offsets are remembered, so that its time is linear.
 fn backward_at(width: u32, vectors: &mut [u8], sheet: &[u8]) -> Answer
-    requires { knownWidth width ≡ true }
-    ensures value { result ≡ runAnswer width sheet.now vectors.old }
-    ensures vectors_after { vectors.new ≡ runBytes Backward width sheet.now vectors.old }
+    requires { known_width width ≡ true }
+    ensures value { result ≡ run_answer width sheet.now vectors.old }
+    ensures vectors_after { vectors.new ≡ run_bytes Backward width sheet.now vectors.old }
 {
     if !precheck::vectors_fit(width, vectors.len()) {
         return Answer::Refused(Refusal::Operand, 0);
@@ -47,8 +47,8 @@ fn backward_at(width: u32, vectors: &mut [u8], sheet: &[u8]) -> Answer
 
 // A forward run of a sheet over the lent vectors.
 pub fn run_forward(width: u32, vectors: &mut [u8], sheet: &[u8]) -> Answer
-    ensures value { result ≡ runAnswer width sheet.now vectors.old }
-    ensures vectors_after { vectors.new ≡ runBytes Forward width sheet.now vectors.old }
+    ensures value { result ≡ run_answer width sheet.now vectors.old }
+    ensures vectors_after { vectors.new ≡ run_bytes Forward width sheet.now vectors.old }
 {
     if width == 32 {
         return forward_at(32, vectors, sheet);
@@ -61,8 +61,8 @@ pub fn run_forward(width: u32, vectors: &mut [u8], sheet: &[u8]) -> Answer
 
 // A backward run of a sheet over the lent vectors.
 pub fn run_backward(width: u32, vectors: &mut [u8], sheet: &[u8]) -> Answer
-    ensures value { result ≡ runAnswer width sheet.now vectors.old }
-    ensures vectors_after { vectors.new ≡ runBytes Backward width sheet.now vectors.old }
+    ensures value { result ≡ run_answer width sheet.now vectors.old }
+    ensures vectors_after { vectors.new ≡ run_bytes Backward width sheet.now vectors.old }
 {
     if width == 32 {
         return backward_at(32, vectors, sheet);

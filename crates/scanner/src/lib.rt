@@ -1,7 +1,7 @@
 // The check of a whole load sheet, command by command.
 ghost use Rattle.std.specs.Prelude.{◌≡◌, ◌||◌, ◌≤◌, eqb, length, set};
 ghost use Rattle.std.proofs.lemmas.List.Edits.{sets};
-ghost use Rattle.sheet.specs.Sheet.{scanFrom, plan_of};
+ghost use Rattle.sheet.specs.Sheet.{scan_from, plan_of};
 ghost use Rattle.sheet.specs.Start.{among};
 ghost use Rattle.sheet.specs.Work.{summary};
 
@@ -34,9 +34,9 @@ fn met(before: bool, start: usize, at: usize) -> bool
 // The check of a sheet that is not too long.
 fn scan(width: u32, sheet: &[u8], start: usize, offsets: &mut [u16]) -> Checked
     requires { length sheet.now ≤ 4096 }
-    ensures summary_value { let s = sheet.now in result.summary ≡ summary width s (scanFrom (length s) width s 0) }
-    ensures starts_value { let s = sheet.now in result.starts ≡ among start (scanFrom (length s) width s 0).offsets }
-    ensures offsets_after { let s = sheet.now in offsets.new ≡ sets offsets.old 0 (scanFrom (length s) width s 0).offsets }
+    ensures summary_value { let s = sheet.now in result.summary ≡ summary width s (scan_from (length s) width s 0) }
+    ensures starts_value { let s = sheet.now in result.starts ≡ among start (scan_from (length s) width s 0).offsets }
+    ensures offsets_after { let s = sheet.now in offsets.new ≡ sets offsets.old 0 (scan_from (length s) width s 0).offsets }
 {
     let mut count: usize = 0;
     let mut units: usize = 0;

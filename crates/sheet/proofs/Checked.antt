@@ -9,73 +9,73 @@ use lib.Seq.{sets, sets-eq, length-sets, take_at}
 use Rattle.answer.specs.declared.Refusal.{Refusal}
 use Rattle.answer.specs.declared.Refusal.TheVariants.{Sheet}
 use Rattle.sheet.specs.declared.Summary.TheVariants.{Whole, Faulty}
-use Rattle.sheet.specs.Read.{placeCount}
+use Rattle.sheet.specs.Read.{place_count}
 use Rattle.sheet.specs.Sheet as Plans
-use Rattle.sheet.specs.Sheet.{Outcome, Plan, scanFrom, plan_of}
-use Rattle.sheet.specs.Work.{totalUnits, summed, summary}
-use Rattle.sheet.proofs.Scan.{plan-scanned, plan-long}
-use Rattle.sheet.proofs.Rest.{few-commands, few-units}
+use Rattle.sheet.specs.Sheet.{Outcome, Plan, scan_from, plan_of}
+use Rattle.sheet.specs.Work.{total_units, summed, summary}
+use Rattle.sheet.proofs.Scan.{plan_scanned, plan_long}
+use Rattle.sheet.proofs.Rest.{few_commands, few_units}
 
 -- what a summary tells of the plan
 pub record Checked (w : ℕ) (s l : List ℕ) (o : Outcome) (n t : ℕ) : Type 0 where
   pub sound : o ≡ Plans.Sound
   pub count : n ≡ length l
-  pub total : t ≡ totalUnits w s l
+  pub total : t ≡ total_units w s l
 
-summed-whole : (w : ℕ) (s l : List ℕ) (o : Outcome) (n t : ℕ) → Whole n t ≡ summed w s l o → Checked w s l o n t
-summed-whole w s l Plans.Sound n t e = record { sound = refl; count = cc; total = cc }
-summed-whole w s l (Plans.Faulty r i) n t e = let z : ◌≡◌ {A = ℕ} 0 1 = cc in absurd (omega arith)
+summed_whole : (w : ℕ) (s l : List ℕ) (o : Outcome) (n t : ℕ) → Whole n t ≡ summed w s l o → Checked w s l o n t
+summed_whole w s l Plans.Sound n t e = record { sound = refl; count = cc; total = cc }
+summed_whole w s l (Plans.Faulty r i) n t e = let z : ◌≡◌ {A = ℕ} 0 1 = cc in absurd (omega arith)
 
-summed-faulty : (w : ℕ) (s l : List ℕ) (o : Outcome) (r : Refusal) (i : ℕ) → Faulty r i ≡ summed w s l o → o ≡ Plans.Faulty r i
-summed-faulty w s l Plans.Sound r i e = let z : ◌≡◌ {A = ℕ} 0 1 = cc in absurd (omega arith)
-summed-faulty w s l (Plans.Faulty q j) r i e = cc
+summed_faulty : (w : ℕ) (s l : List ℕ) (o : Outcome) (r : Refusal) (i : ℕ) → Faulty r i ≡ summed w s l o → o ≡ Plans.Faulty r i
+summed_faulty w s l Plans.Sound r i e = let z : ◌≡◌ {A = ℕ} 0 1 = cc in absurd (omega arith)
+summed_faulty w s l (Plans.Faulty q j) r i e = cc
 
 pub faulted : (w : ℕ) (s : List ℕ) (r : Refusal) (i : ℕ) → Faulty r i ≡ summary w s (plan_of w s) → (plan_of w s).outcome ≡ Plans.Faulty r i
-faulted w s r i e = summed-faulty w s (plan_of w s).offsets (plan_of w s).outcome r i e
+faulted w s r i e = summed_faulty w s (plan_of w s).offsets (plan_of w s).outcome r i e
 
 -- a sound sheet is not too long
 module _ (w : ℕ) (s : List ℕ) (e : (plan_of w s).outcome ≡ Plans.Sound) where
-  short-by : Dec (length s ≤ 4096) → length s ≤ 4096
-  short-by (yes h) = h
-  short-by (no h) =
+  short_by : Dec (length s ≤ 4096) → length s ≤ 4096
+  short_by (yes h) = h
+  short_by (no h) =
       let long : 4096 < length s = omega arith in
-      let o : ◌≡◌ {A = Outcome} (Plans.Faulty Sheet 0) Plans.Sound = ap (λ (p : Plan). p.outcome) (plan-long placeCount w s long) ∙ e in
+      let o : ◌≡◌ {A = Outcome} (Plans.Faulty Sheet 0) Plans.Sound = ap (λ (p : Plan). p.outcome) (plan_long place_count w s long) ∙ e in
       let z : ◌≡◌ {A = ℕ} 0 1 = cc in
       absurd (omega arith)
 
-  pub sound-short : length s ≤ 4096
-  sound-short = short-by (dec_le (length s) 4096)
+  pub sound_short : length s ≤ 4096
+  sound_short = short_by (dec_le (length s) 4096)
 
   -- .. and has at most 2,048 commands
-  pub sound-few : length (plan_of w s).offsets ≤ 2048
-  sound-few =
-      let h : 2 * length (plan_of w s).offsets ≤ length s = rw (plan-scanned placeCount w s sound-short) at (few-commands placeCount w s) in
-      omega (arith, sound-short)
+  pub sound_few : length (plan_of w s).offsets ≤ 2048
+  sound_few =
+      let h : 2 * length (plan_of w s).offsets ≤ length s = rw (plan_scanned place_count w s sound_short) at (few_commands place_count w s) in
+      omega (arith, sound_short)
 
   -- .. and no more than 1,365 that count
-  pub sound-units : 1 ≤ w → totalUnits w s (plan_of w s).offsets ≤ 1365
-  sound-units l =
-      let h : 3 * totalUnits w s (plan_of w s).offsets ≤ length s = rw (plan-scanned placeCount w s sound-short) at (few-units placeCount w s l) in
-      omega (arith, sound-short)
+  pub sound_units : 1 ≤ w → total_units w s (plan_of w s).offsets ≤ 1365
+  sound_units l =
+      let h : 3 * total_units w s (plan_of w s).offsets ≤ length s = rw (plan_scanned place_count w s sound_short) at (few_units place_count w s l) in
+      omega (arith, sound_short)
 
 -- a sheet that was found sound
 module _ (w : ℕ) (s : List ℕ) {n t : ℕ} (e : Whole n t ≡ summary w s (plan_of w s)) where
   pub checked : Checked w s (plan_of w s).offsets (plan_of w s).outcome n t
-  checked = summed-whole w s (plan_of w s).offsets (plan_of w s).outcome n t e
+  checked = summed_whole w s (plan_of w s).offsets (plan_of w s).outcome n t e
 
   pub short : length s ≤ 4096
-  short = sound-short w s checked.sound
+  short = sound_short w s checked.sound
 
-  pub whole-scanned : scanFrom (length s) w s 0 ≡ plan_of w s
-  whole-scanned = plan-scanned placeCount w s short
+  pub whole_scanned : scan_from (length s) w s 0 ≡ plan_of w s
+  whole_scanned = plan_scanned place_count w s short
 
   -- the offsets in an array that has a place for each command
-  pub whole-offsets : (l : List ℕ) → length l ≡ 2048 → {kept : List ℕ} → kept ≡ sets l 0 (plan_of w s).offsets
+  pub whole_offsets : (l : List ℕ) → length l ≡ 2048 → {kept : List ℕ} → kept ≡ sets l 0 (plan_of w s).offsets
       → (n ≤ length kept) × (take n kept ≡ (plan_of w s).offsets)
-  whole-offsets l el {kept} k =
+  whole_offsets l el {kept} k =
       let os = (plan_of w s).offsets in
       let c : n ≡ length os = checked.count in
-      let f = sound-few w s checked.sound in
+      let f = sound_few w s checked.sound in
       let fit : 0 + length os ≤ length l = omega arith in
       let q : kept ≡ os ++ drop (0 + length os) l = k ∙ sets-eq os l 0 fit in
       let lk : length kept ≡ length l = ap length k ∙ length-sets l 0 os in

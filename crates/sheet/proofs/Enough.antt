@@ -6,34 +6,34 @@ use native.Mathlib.Omega.{arith}
 use lib.ListN.{length}
 use Rattle.sheet.specs.declared.Read.{Read}
 use Rattle.sheet.specs.declared.Read.TheVariants.{Got, Fault, End}
-use Rattle.sheet.specs.Read.{readAmong}
-use Rattle.sheet.specs.Sheet.{Plan, behind, continue, scanAmong}
-use Rattle.sheet.specs.Enough.{PlanFrom, at-command, at-fault, at-end, StepsEnough}
+use Rattle.sheet.specs.Read.{read_among}
+use Rattle.sheet.specs.Sheet.{Plan, behind, continue, scan_among}
+use Rattle.sheet.specs.Enough.{PlanFrom, at_command, at_fault, at_end, StepsEnough}
 use Rattle.sheet.specs.Sound.{SoundRead}
-use Rattle.sheet.proofs.Sound.{read-sound}
-use Rattle.sheet.proofs.Scan.{read-end, scan-end}
-use Rattle.sheet.proofs.Rest.{enough, rest-got, rest-fault}
+use Rattle.sheet.proofs.Sound.{read_sound}
+use Rattle.sheet.proofs.Scan.{read_end, scan_end}
+use Rattle.sheet.proofs.Rest.{enough, rest_got, rest_fault}
 
 module _ (n w : ℕ) (s : List ℕ) where
-  plan-with : (f i : ℕ) (r : Read) → readAmong n w s i ≡ r → SoundRead n w (length s) i r → length s - i ≤ suc f
-      → ((j : ℕ) → length s - j ≤ f → PlanFrom n w s j (scanAmong n f w s j)) → PlanFrom n w s i (continue r i (scanAmong n f w s))
-  plan-with f i (Got d) e h l k = at-command e (k d.next (omega (arith, h.on)))
-  plan-with f i (Fault r) e h l k = at-fault e
-  plan-with f i End e h l k = at-end e
+  plan_with : (f i : ℕ) (r : Read) → read_among n w s i ≡ r → SoundRead n w (length s) i r → length s - i ≤ suc f
+      → ((j : ℕ) → length s - j ≤ f → PlanFrom n w s j (scan_among n f w s j)) → PlanFrom n w s i (continue r i (scan_among n f w s))
+  plan_with f i (Got d) e h l k = at_command e (k d.next (omega (arith, h.on)))
+  plan_with f i (Fault r) e h l k = at_fault e
+  plan_with f i End e h l k = at_end e
 
-  plan-from : (f i : ℕ) → length s - i ≤ f → PlanFrom n w s i (scanAmong n f w s i)
-  plan-from zero i h = at-end (read-end n w s i (omega arith))
-  plan-from (suc f) i h = plan-with f i (readAmong n w s i) refl (read-sound n w s i) h (plan-from f)
+  plan_from : (f i : ℕ) → length s - i ≤ f → PlanFrom n w s i (scan_among n f w s i)
+  plan_from zero i h = at_end (read_end n w s i (omega arith))
+  plan_from (suc f) i h = plan_with f i (read_among n w s i) refl (read_sound n w s i) h (plan_from f)
 
-  only-plan : {i : ℕ} {p : Plan} → PlanFrom n w s i p → p ≡ scanAmong n (length s) w s i
-  only-plan (at-command {i} {d} e h) = ap (behind i) (only-plan h) ∙ sym (rest-got n w s i d e)
-  only-plan (at-fault {i} {r} e) = sym (rest-fault n w s i r e)
-  only-plan (at-end {i} e) = sym (scan-end n w s (length s) i e)
+  only_plan : {i : ℕ} {p : Plan} → PlanFrom n w s i p → p ≡ scan_among n (length s) w s i
+  only_plan (at_command {i} {d} e h) = ap (behind i) (only_plan h) ∙ sym (rest_got n w s i d e)
+  only_plan (at_fault {i} {r} e) = sym (rest_fault n w s i r e)
+  only_plan (at_end {i} e) = sym (scan_end n w s (length s) i e)
 
-pub steps-enough : StepsEnough
-steps-enough n w s i =
+pub steps_enough : StepsEnough
+steps_enough n w s i =
     record {
-      plan = plan-from n w s (length s) i (omega arith);
-      only = λ p h. only-plan n w s h;
+      plan = plan_from n w s (length s) i (omega arith);
+      only = λ p h. only_plan n w s h;
       more = λ f h. enough n w s f (length s) i (omega arith) (omega arith);
     }

@@ -9,38 +9,38 @@ use mir.Val.{Fits, bits}
 use borrow.Rule.Slice.PartMut.{put_mid, mid_of}
 use lib.ListN.{length, get_or, drop, set}
 use Rattle.memory.specs.Bytes.{bytes_of, Bytes}
-use Rattle.memory.proofs.Parts.{part-written}
+use Rattle.memory.proofs.Parts.{part_written}
 use Rattle.quasigroup.proofs.Vectors.{below_of}
 use Rattle.quasigroup.proofs.Widths.{Bytewise}
-use Rattle.sheet.specs.Read.{placeCount}
-use Rattle.sheet.specs.Effect.{at, vectorAt}
-use Rattle.sheet.specs.Run.{vectorsIn}
-use Rattle.sheet.proofs.Lent.{at_from, vectors-written}
+use Rattle.sheet.specs.Read.{place_count}
+use Rattle.sheet.specs.Effect.{at, vector_at}
+use Rattle.sheet.specs.Run.{vectors_in}
+use Rattle.sheet.proofs.Lent.{at_from, vectors_written}
 
 -- the vector at a place, read at its offset
-pub place_read : (w : ℕ) (b : List ℕ) (i : ℕ) → i < placeCount → vectorAt w b (i * w) ≡ at (vectorsIn w b) i
-place_read w b i h = let e : 0 + i * w ≡ i * w = omega arith in sym (at_from w placeCount b 0 i h ∙ ap (vectorAt w b) e)
+pub place_read : (w : ℕ) (b : List ℕ) (i : ℕ) → i < place_count → vector_at w b (i * w) ≡ at (vectors_in w b) i
+place_read w b i h = let e : 0 + i * w ≡ i * w = omega arith in sym (at_from w place_count b 0 i h ∙ ap (vector_at w b) e)
 
 -- the vectors after the one at a place is written over by eight words of the machine's, of t's bits
-pub place-written : {part : List ℕ} (t : Width) → let w = bits t in Bytewise w → (b : List ℕ) → Bytes b → length b ≡ placeCount * w → (i : ℕ) → i < placeCount
+pub place_written : {part : List ℕ} (t : Width) → let w = bits t in Bytewise w → (b : List ℕ) → Bytes b → length b ≡ place_count * w → (i : ℕ) → i < place_count
     → (x : List ℕ) → length x ≡ 8 → ((j : ℕ) → Fits t (get_or x j 0))
-    → part ≡ bytes_of (w / 8) x ++ drop w (mid_of (i * w) (length b - i * w) b) → vectorsIn w (put_mid (i * w) (length b - i * w) b part) ≡ set (vectorsIn w b) i x
-place-written t hw b hb e i h x n f p =
+    → part ≡ bytes_of (w / 8) x ++ drop w (mid_of (i * w) (length b - i * w) b) → vectors_in w (put_mid (i * w) (length b - i * w) b part) ≡ set (vectors_in w b) i x
+place_written t hw b hb e i h x n f p =
     let w = bits t in
     let q : i * w + w ≤ length b = omega (arith, e, suc-mul i w, mul-le-mul_right w h) in
-    ap (λ (l : List ℕ). vectorsIn w (put_mid (i * w) (length b - i * w) b l)) p
-    ∙ ap (vectorsIn w) (part-written w b (i * w) (bytes_of (w / 8) x) q)
-    ∙ vectors-written w hw b hb e i x h (record { size = n; small = below_of (2 ^ w) x (λ j _. (f j).fits) })
+    ap (λ (l : List ℕ). vectors_in w (put_mid (i * w) (length b - i * w) b l)) p
+    ∙ ap (vectors_in w) (part_written w b (i * w) (bytes_of (w / 8) x) q)
+    ∙ vectors_written w hw b hb e i x h (record { size = n; small = below_of (2 ^ w) x (λ j _. (f j).fits) })
 
 -- the vectors v after f of one vector, or of two, is put at place d
 pub changed : (v : List (List ℕ)) (d : ℕ) (f : List ℕ → List ℕ) {u : List (List ℕ)} {x z a : List ℕ} → u ≡ set v d z → z ≡ f x → x ≡ a → u ≡ set v d (f a)
 changed v d f p q h = cc
 
-pub changed-by : (v : List (List ℕ)) (d : ℕ) (f : List ℕ → List ℕ → List ℕ) {u : List (List ℕ)} {x y z a b : List ℕ}
+pub changed_by : (v : List (List ℕ)) (d : ℕ) (f : List ℕ → List ℕ → List ℕ) {u : List (List ℕ)} {x y z a b : List ℕ}
     → u ≡ set v d z → z ≡ f x y → x ≡ a → y ≡ b → u ≡ set v d (f a b)
-changed-by v d f p q h k = cc
+changed_by v d f p q h k = cc
 
 -- the vectors v after one is put at place d, and then another at place s
-pub changed-both : (v : List (List ℕ)) (d s : ℕ) {t u : List (List ℕ)} {x y a b : List ℕ}
+pub changed_both : (v : List (List ℕ)) (d s : ℕ) {t u : List (List ℕ)} {x y a b : List ℕ}
     → t ≡ set v d y → u ≡ set t s x → y ≡ b → x ≡ a → u ≡ set (set v d b) s a
-changed-both v d s p q h k = cc
+changed_both v d s p q h k = cc

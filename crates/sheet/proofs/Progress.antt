@@ -11,168 +11,168 @@ use Rattle.invertible.specs.RoundTrip.{Forward}
 use Rattle.sheet.specs.declared.Decoded.{Decoded}
 use Rattle.sheet.specs.declared.Read.{Read}
 use Rattle.sheet.specs.declared.Read.TheVariants.{Got, Fault, End}
-use Rattle.sheet.specs.Read.{placeCount, readAt}
+use Rattle.sheet.specs.Read.{place_count, read_at}
 use Rattle.sheet.specs.Sheet as Plans
-use Rattle.sheet.specs.Sheet.{Outcome, Plan, scanFrom}
-use Rattle.sheet.specs.Work.{unitsIn, totalUnits}
-use Rattle.sheet.specs.Run.{stepWith, steps}
+use Rattle.sheet.specs.Sheet.{Outcome, Plan, scan_from}
+use Rattle.sheet.specs.Work.{units_in, total_units}
+use Rattle.sheet.specs.Run.{step_with, steps}
 use Rattle.sheet.specs.Sound.{SoundRead}
-use Rattle.sheet.specs.Progress.{RunState, startingAt, advanced, stateAfter, remaining}
-use Rattle.sheet.proofs.Sound.{read-sound}
-use Rattle.sheet.proofs.Work.{units-none, units-more}
-use Rattle.sheet.proofs.Rest.{rest-got, rest-fault, rest_end}
+use Rattle.sheet.specs.Progress.{RunState, starting_at, advanced, state_after, remaining}
+use Rattle.sheet.proofs.Sound.{read_sound}
+use Rattle.sheet.proofs.Work.{units_none, units_more}
+use Rattle.sheet.proofs.Rest.{rest_got, rest_fault, rest_end}
 
 module _ (w : ℕ) (s : List ℕ) where
   -- ---- one command more
 
-  pub after_read : (k : ℕ) (p : RunState) (r : Read) → readAt w s p.offset ≡ r → stateAfter (suc k) w s p ≡ stateAfter k w s (advanced w s r p)
-  after_read k p r e = ap (λ (r : Read). stateAfter k w s (advanced w s r p)) e
+  pub after_read : (k : ℕ) (p : RunState) (r : Read) → read_at w s p.offset ≡ r → state_after (suc k) w s p ≡ state_after k w s (advanced w s r p)
+  after_read k p r e = ap (λ (r : Read). state_after k w s (advanced w s r p)) e
 
   -- where no command stands
-  pub stays : (k : ℕ) (p : RunState) (r : Read) → readAt w s p.offset ≡ r → advanced w s r p ≡ p → p ≡ stateAfter k w s p
+  pub stays : (k : ℕ) (p : RunState) (r : Read) → read_at w s p.offset ≡ r → advanced w s r p ≡ p → p ≡ state_after k w s p
   stays zero p r e h = refl
-  stays (suc k) p r e h = stays k p r e h ∙ sym (after_read k p r e ∙ ap (stateAfter k w s) h)
+  stays (suc k) p r e h = stays k p r e h ∙ sym (after_read k p r e ∙ ap (state_after k w s) h)
 
-  remaining-got : (i : ℕ) (d : Decoded) → readAt w s i ≡ Got d → remaining w s i ≡ i ∷ remaining w s d.next
-  remaining-got i d e = ap (λ (p : Plan). p.offsets) (rest-got placeCount w s i d e)
+  remaining_got : (i : ℕ) (d : Decoded) → read_at w s i ≡ Got d → remaining w s i ≡ i ∷ remaining w s d.next
+  remaining_got i d e = ap (λ (p : Plan). p.offsets) (rest_got place_count w s i d e)
 
-  remaining-fault : (i : ℕ) (r : Refusal) → readAt w s i ≡ Fault r → remaining w s i ≡ []
-  remaining-fault i r e = ap (λ (p : Plan). p.offsets) (rest-fault placeCount w s i r e)
+  remaining_fault : (i : ℕ) (r : Refusal) → read_at w s i ≡ Fault r → remaining w s i ≡ []
+  remaining_fault i r e = ap (λ (p : Plan). p.offsets) (rest_fault place_count w s i r e)
 
-  pub remaining-end : (i : ℕ) → readAt w s i ≡ End → remaining w s i ≡ []
-  remaining-end i e = rest_end placeCount w s i e
+  pub remaining_end : (i : ℕ) → read_at w s i ≡ End → remaining w s i ≡ []
+  remaining_end i e = rest_end place_count w s i e
 
   -- ---- as many as there are
 
   abbrev AsMany : ℕ → RunState → Type 0
-  AsMany k p = stateAfter (min k (length (remaining w s p.offset))) w s p ≡ stateAfter k w s p
+  AsMany k p = state_after (min k (length (remaining w s p.offset))) w s p ≡ state_after k w s p
 
   -- where no command stands
-  none_left : (k : ℕ) (p : RunState) → remaining w s p.offset ≡ [] → stateAfter (suc k) w s p ≡ stateAfter k w s p → AsMany k p → AsMany (suc k) p
+  none_left : (k : ℕ) (p : RunState) → remaining w s p.offset ≡ [] → state_after (suc k) w s p ≡ state_after k w s p → AsMany k p → AsMany (suc k) p
   none_left k p l stays h =
       let now : (n : ℕ) → min n (length (remaining w s p.offset)) ≡ 0 = λ n. ap (λ (m : List ℕ). min n (length m)) l ∙ min-zero n in
-      ap (λ (n : ℕ). stateAfter n w s p) (now (suc k) ∙ sym (now k)) ∙ h ∙ sym stays
+      ap (λ (n : ℕ). state_after n w s p) (now (suc k) ∙ sym (now k)) ∙ h ∙ sym stays
 
-  as-many-with : (k : ℕ) (p : RunState) (r : Read) → readAt w s p.offset ≡ r → ((q : RunState) → AsMany k q) → AsMany (suc k) p
-  as-many-with k p (Got d) e h =
+  as_many_with : (k : ℕ) (p : RunState) (r : Read) → read_at w s p.offset ≡ r → ((q : RunState) → AsMany k q) → AsMany (suc k) p
+  as_many_with k p (Got d) e h =
       let n = length (remaining w s d.next) in
       let m : min (suc k) (length (remaining w s p.offset)) ≡ suc (min k n) =
-      ap (λ (l : List ℕ). min (suc k) (length l)) (remaining-got p.offset d e) ∙ suc-min-suc k n in
+      ap (λ (l : List ℕ). min (suc k) (length l)) (remaining_got p.offset d e) ∙ suc-min-suc k n in
       let q = advanced w s (Got d) p in
-      ap (λ (n : ℕ). stateAfter n w s p) m ∙ after_read (min k n) p (Got d) e ∙ h q ∙ sym (after_read k p (Got d) e)
-  as-many-with k p (Fault r) e h = none_left k p (remaining-fault p.offset r e) (after_read k p (Fault r) e) (h p)
-  as-many-with k p End e h = none_left k p (remaining-end p.offset e) (after_read k p End e) (h p)
+      ap (λ (n : ℕ). state_after n w s p) m ∙ after_read (min k n) p (Got d) e ∙ h q ∙ sym (after_read k p (Got d) e)
+  as_many_with k p (Fault r) e h = none_left k p (remaining_fault p.offset r e) (after_read k p (Fault r) e) (h p)
+  as_many_with k p End e h = none_left k p (remaining_end p.offset e) (after_read k p End e) (h p)
 
-  pub as_many : (k : ℕ) (p : RunState) → stateAfter (min k (length (remaining w s p.offset))) w s p ≡ stateAfter k w s p
-  as_many zero p = ap (λ (n : ℕ). stateAfter n w s p) (zero-min (length (remaining w s p.offset)))
-  as_many (suc k) p = as-many-with k p (readAt w s p.offset) refl (as_many k)
+  pub as_many : (k : ℕ) (p : RunState) → state_after (min k (length (remaining w s p.offset))) w s p ≡ state_after k w s p
+  as_many zero p = ap (λ (n : ℕ). state_after n w s p) (zero-min (length (remaining w s p.offset)))
+  as_many (suc k) p = as_many_with k p (read_at w s p.offset) refl (as_many k)
 
   -- ---- b commands and then c
 
-  pub after-after : (b c : ℕ) (p : RunState) → stateAfter c w s (stateAfter b w s p) ≡ stateAfter (b + c) w s p
-  after-after zero c p = ap (λ (n : ℕ). stateAfter n w s p) (sym (zero-add c))
-  after-after (suc b) c p = after-after b c (advanced w s (readAt w s p.offset) p) ∙ ap (λ (n : ℕ). stateAfter n w s p) (sym (suc-add b c))
+  pub after_after : (b c : ℕ) (p : RunState) → state_after c w s (state_after b w s p) ≡ state_after (b + c) w s p
+  after_after zero c p = ap (λ (n : ℕ). state_after n w s p) (sym (zero-add c))
+  after_after (suc b) c p = after_after b c (advanced w s (read_at w s p.offset) p) ∙ ap (λ (n : ℕ). state_after n w s p) (sym (suc-add b c))
 
   -- units that were counted before
   abbrev pub counted : ℕ → RunState → RunState
   counted t p = record { offset = p.offset; units = t + p.units; vectors = p.vectors }
 
-  counted-read : (t : ℕ) (p : RunState) (r : Read) → advanced w s r (counted t p) ≡ counted t (advanced w s r p)
-  counted-read t p (Got d) =
+  counted_read : (t : ℕ) (p : RunState) (r : Read) → advanced w s r (counted t p) ≡ counted t (advanced w s r p)
+  counted_read t p (Got d) =
       ap {B = RunState} (λ u. record { offset = d.next; units = u; vectors = (advanced w s (Got d) p).vectors }) (add_assoc t p.units d.units)
-  counted-read t p (Fault r) = refl
-  counted-read t p End = refl
+  counted_read t p (Fault r) = refl
+  counted_read t p End = refl
 
-  counted-after : (k t : ℕ) (p : RunState) → stateAfter k w s (counted t p) ≡ counted t (stateAfter k w s p)
-  counted-after zero t p = refl
-  counted-after (suc k) t p =
-      ap (stateAfter k w s) (counted-read t p (readAt w s p.offset)) ∙ counted-after k t (advanced w s (readAt w s p.offset) p)
+  counted_after : (k t : ℕ) (p : RunState) → state_after k w s (counted t p) ≡ counted t (state_after k w s p)
+  counted_after zero t p = refl
+  counted_after (suc k) t p =
+      ap (state_after k w s) (counted_read t p (read_at w s p.offset)) ∙ counted_after k t (advanced w s (read_at w s p.offset) p)
 
   -- from a state as from its start, with its units besides
-  pub after-from : (k : ℕ) (p : RunState) → stateAfter k w s p ≡ counted p.units (stateAfter k w s (startingAt p.offset p.vectors))
-  after-from k p =
-      ap (λ (u : ℕ). stateAfter k w s (record { offset = p.offset; units = u; vectors = p.vectors })) (sym (add-zero p.units))
-      ∙ counted-after k p.units (startingAt p.offset p.vectors)
+  pub after_from : (k : ℕ) (p : RunState) → state_after k w s p ≡ counted p.units (state_after k w s (starting_at p.offset p.vectors))
+  after_from k p =
+      ap (λ (u : ℕ). state_after k w s (record { offset = p.offset; units = u; vectors = p.vectors })) (sym (add-zero p.units))
+      ∙ counted_after k p.units (starting_at p.offset p.vectors)
 
   -- ---- what the commands do and count
 
   pub record Performed (k : ℕ) (p : RunState) : Type 0 where
-    pub vectors : (stateAfter k w s p).vectors ≡ steps Forward w s (take k (remaining w s p.offset)) p.vectors
-    pub units : (stateAfter k w s p).units ≡ p.units + totalUnits w s (take k (remaining w s p.offset))
+    pub vectors : (state_after k w s p).vectors ≡ steps Forward w s (take k (remaining w s p.offset)) p.vectors
+    pub units : (state_after k w s p).units ≡ p.units + total_units w s (take k (remaining w s p.offset))
 
-  none_done : (k : ℕ) (p : RunState) → remaining w s p.offset ≡ [] → stateAfter (suc k) w s p ≡ stateAfter k w s p → Performed k p → Performed (suc k) p
+  none_done : (k : ℕ) (p : RunState) → remaining w s p.offset ≡ [] → state_after (suc k) w s p ≡ state_after k w s p → Performed k p → Performed (suc k) p
   none_done k p l stays h =
       let o = p.offset in
       let same : take k (remaining w s o) ≡ take (suc k) (remaining w s o) = ap (take k) l ∙ take-nil k ∙ sym (ap (take (suc k)) l) in
       record {
         vectors = ap (λ (q : RunState). q.vectors) stays ∙ h.vectors ∙ ap (λ (l : List ℕ). steps Forward w s l p.vectors) same;
-        units = ap (λ (q : RunState). q.units) stays ∙ h.units ∙ ap (λ (l : List ℕ). p.units + totalUnits w s l) same;
+        units = ap (λ (q : RunState). q.units) stays ∙ h.units ∙ ap (λ (l : List ℕ). p.units + total_units w s l) same;
       }
 
-  done-with : (k : ℕ) (p : RunState) (r : Read) → readAt w s p.offset ≡ r → ((q : RunState) → Performed k q) → Performed (suc k) p
-  done-with k p (Got d) e h =
+  done_with : (k : ℕ) (p : RunState) (r : Read) → read_at w s p.offset ≡ r → ((q : RunState) → Performed k q) → Performed (suc k) p
+  done_with k p (Got d) e h =
       let q = advanced w s (Got d) p in
       let o = p.offset in
       let rest = take k (remaining w s d.next) in
       let a = after_read k p (Got d) e in
-      let l : o ∷ rest ≡ take (suc k) (remaining w s o) = sym (ap (take (suc k)) (remaining-got o d e)) in
-      let u : totalUnits w s (o ∷ rest) ≡ d.units + totalUnits w s rest =
-      units-more placeCount w s o rest ∙ ap (λ (r : Read). unitsIn r + totalUnits w s rest) e in
+      let l : o ∷ rest ≡ take (suc k) (remaining w s o) = sym (ap (take (suc k)) (remaining_got o d e)) in
+      let u : total_units w s (o ∷ rest) ≡ d.units + total_units w s rest =
+      units_more place_count w s o rest ∙ ap (λ (r : Read). units_in r + total_units w s rest) e in
       record {
         vectors =
             ap (λ (q : RunState). q.vectors) a ∙ (h q).vectors
-            ∙ ap (λ (r : Read). steps Forward w s rest (stepWith Forward w s r p.vectors)) (sym e)
+            ∙ ap (λ (r : Read). steps Forward w s rest (step_with Forward w s r p.vectors)) (sym e)
             ∙ ap (λ (l : List ℕ). steps Forward w s l p.vectors) l;
         units =
-            ap (λ (q : RunState). q.units) a ∙ (h q).units ∙ add_assoc p.units d.units (totalUnits w s rest)
-            ∙ ap (λ (t : ℕ). p.units + t) (sym u) ∙ ap (λ (l : List ℕ). p.units + totalUnits w s l) l;
+            ap (λ (q : RunState). q.units) a ∙ (h q).units ∙ add_assoc p.units d.units (total_units w s rest)
+            ∙ ap (λ (t : ℕ). p.units + t) (sym u) ∙ ap (λ (l : List ℕ). p.units + total_units w s l) l;
       }
-  done-with k p (Fault r) e h = none_done k p (remaining-fault p.offset r e) (after_read k p (Fault r) e) (h p)
-  done-with k p End e h = none_done k p (remaining-end p.offset e) (after_read k p End e) (h p)
+  done_with k p (Fault r) e h = none_done k p (remaining_fault p.offset r e) (after_read k p (Fault r) e) (h p)
+  done_with k p End e h = none_done k p (remaining_end p.offset e) (after_read k p End e) (h p)
 
   pub done : (k : ℕ) (p : RunState) → Performed k p
-  done zero p = record { vectors = refl; units = omega (arith, units-none placeCount w s) }
-  done (suc k) p = done-with k p (readAt w s p.offset) refl (done k)
+  done zero p = record { vectors = refl; units = omega (arith, units_none place_count w s) }
+  done (suc k) p = done_with k p (read_at w s p.offset) refl (done k)
 
   -- ---- the offset that is reached in a sound sheet
 
   abbrev SoundFrom : ℕ → Type 0
-  SoundFrom i = (scanFrom (length s) w s i).outcome ≡ Plans.Sound
+  SoundFrom i = (scan_from (length s) w s i).outcome ≡ Plans.Sound
 
-  sound-next : (i : ℕ) (d : Decoded) → readAt w s i ≡ Got d → SoundFrom i → SoundFrom d.next
-  sound-next i d e h = sym (ap (λ (p : Plan). p.outcome) (rest-got placeCount w s i d e)) ∙ h
+  sound_next : (i : ℕ) (d : Decoded) → read_at w s i ≡ Got d → SoundFrom i → SoundFrom d.next
+  sound_next i d e h = sym (ap (λ (p : Plan). p.outcome) (rest_got place_count w s i d e)) ∙ h
 
-  no-fault : (i : ℕ) (r : Refusal) → readAt w s i ≡ Fault r → SoundFrom i → ⊥
-  no-fault i r e h =
-      let o : ◌≡◌ {A = Outcome} (Plans.Faulty r i) Plans.Sound = sym (ap (λ (p : Plan). p.outcome) (rest-fault placeCount w s i r e)) ∙ h in
+  no_fault : (i : ℕ) (r : Refusal) → read_at w s i ≡ Fault r → SoundFrom i → ⊥
+  no_fault i r e h =
+      let o : ◌≡◌ {A = Outcome} (Plans.Faulty r i) Plans.Sound = sym (ap (λ (p : Plan). p.outcome) (rest_fault place_count w s i r e)) ∙ h in
       let z : ◌≡◌ {A = ℕ} 0 1 = cc in
       omega arith
 
   abbrev Reaches : ℕ → RunState → Type 0
-  Reaches k p = SoundFrom p.offset → p.offset ≤ length s → (stateAfter k w s p).offset ≡ get_or (remaining w s p.offset) k (length s)
+  Reaches k p = SoundFrom p.offset → p.offset ≤ length s → (state_after k w s p).offset ≡ get_or (remaining w s p.offset) k (length s)
 
-  here-with : (p : RunState) (r : Read) → readAt w s p.offset ≡ r → SoundRead placeCount w (length s) p.offset r → Reaches zero p
-  here-with p (Got d) e h sound within = ap (λ (l : List ℕ). get_or l zero (length s)) (sym (remaining-got p.offset d e))
-  here-with p (Fault r) e h sound within = absurd (no-fault p.offset r e sound)
-  here-with p End e h sound within =
+  here_with : (p : RunState) (r : Read) → read_at w s p.offset ≡ r → SoundRead place_count w (length s) p.offset r → Reaches zero p
+  here_with p (Got d) e h sound within = ap (λ (l : List ℕ). get_or l zero (length s)) (sym (remaining_got p.offset d e))
+  here_with p (Fault r) e h sound within = absurd (no_fault p.offset r e sound)
+  here_with p End e h sound within =
       let here : p.offset ≡ length s = omega arith in
-      here ∙ ap (λ (l : List ℕ). get_or l zero (length s)) (sym (remaining-end p.offset e))
+      here ∙ ap (λ (l : List ℕ). get_or l zero (length s)) (sym (remaining_end p.offset e))
 
-  reaches-with : (k : ℕ) (p : RunState) (r : Read) → readAt w s p.offset ≡ r → SoundRead placeCount w (length s) p.offset r
+  reaches_with : (k : ℕ) (p : RunState) (r : Read) → read_at w s p.offset ≡ r → SoundRead place_count w (length s) p.offset r
       → ((q : RunState) → Reaches k q) → Reaches (suc k) p
-  reaches-with k p (Got d) e h ih sound within =
+  reaches_with k p (Got d) e h ih sound within =
       ap (λ (q : RunState). q.offset) (after_read k p (Got d) e)
-      ∙ ih (advanced w s (Got d) p) (sound-next p.offset d e sound) h.within
-      ∙ ap (λ (l : List ℕ). get_or l (suc k) (length s)) (sym (remaining-got p.offset d e))
-  reaches-with k p (Fault r) e h ih sound within = absurd (no-fault p.offset r e sound)
-  reaches-with k p End e h ih sound within =
-      let l = remaining-end p.offset e in
+      ∙ ih (advanced w s (Got d) p) (sound_next p.offset d e sound) h.within
+      ∙ ap (λ (l : List ℕ). get_or l (suc k) (length s)) (sym (remaining_got p.offset d e))
+  reaches_with k p (Fault r) e h ih sound within = absurd (no_fault p.offset r e sound)
+  reaches_with k p End e h ih sound within =
+      let l = remaining_end p.offset e in
       ap (λ (q : RunState). q.offset) (after_read k p End e) ∙ ih p sound within
       ∙ ap (λ (l : List ℕ). get_or l k (length s)) l ∙ sym (ap (λ (l : List ℕ). get_or l (suc k) (length s)) l)
 
-  pub reaches : (k : ℕ) (p : RunState) → SoundFrom p.offset → p.offset ≤ length s → (stateAfter k w s p).offset ≡ get_or (remaining w s p.offset) k (length s)
-  reaches zero p = here-with p (readAt w s p.offset) refl (read-sound placeCount w s p.offset)
-  reaches (suc k) p = reaches-with k p (readAt w s p.offset) refl (read-sound placeCount w s p.offset) (reaches k)
+  pub reaches : (k : ℕ) (p : RunState) → SoundFrom p.offset → p.offset ≤ length s → (state_after k w s p).offset ≡ get_or (remaining w s p.offset) k (length s)
+  reaches zero p = here_with p (read_at w s p.offset) refl (read_sound place_count w s p.offset)
+  reaches (suc k) p = reaches_with k p (read_at w s p.offset) refl (read_sound place_count w s p.offset) (reaches k)
 
   -- ---- a run stays in its sheet, and takes three bytes or more for each unit
 
@@ -180,12 +180,12 @@ module _ (w : ℕ) (s : List ℕ) where
     pub inside : p.offset ≤ length s
     pub taken : 3 * p.units ≤ p.offset
 
-  within-read : 1 ≤ w → (p : RunState) (r : Read) → SoundRead placeCount w (length s) p.offset r → Within p → Within (advanced w s r p)
-  within-read l p (Got d) h i = record { inside = h.within; taken = omega (arith, h.taken l, i.taken) }
-  within-read l p (Fault r) h i = i
-  within-read l p End h i = i
+  within_read : 1 ≤ w → (p : RunState) (r : Read) → SoundRead place_count w (length s) p.offset r → Within p → Within (advanced w s r p)
+  within_read l p (Got d) h i = record { inside = h.within; taken = omega (arith, h.taken l, i.taken) }
+  within_read l p (Fault r) h i = i
+  within_read l p End h i = i
 
-  pub within-after : 1 ≤ w → (k : ℕ) (p : RunState) → Within p → Within (stateAfter k w s p)
-  within-after l zero p i = i
-  within-after l (suc k) p i =
-      within-after l k (advanced w s (readAt w s p.offset) p) (within-read l p (readAt w s p.offset) (read-sound placeCount w s p.offset) i)
+  pub within_after : 1 ≤ w → (k : ℕ) (p : RunState) → Within p → Within (state_after k w s p)
+  within_after l zero p i = i
+  within_after l (suc k) p i =
+      within_after l k (advanced w s (read_at w s p.offset) p) (within_read l p (read_at w s p.offset) (read_sound place_count w s p.offset) i)

@@ -10,31 +10,31 @@ use Rattle.answer.specs.declared.Refusal.TheVariants.{Sheet}
 use Rattle.sheet.specs.declared.Decoded.{Decoded}
 use Rattle.sheet.specs.declared.Read.{Read}
 use Rattle.sheet.specs.declared.Read.TheVariants.{Got, Fault, End}
-use Rattle.sheet.specs.Read.{readAmong}
-use Rattle.sheet.specs.Sheet.{Sound, refused, behind, continue, scanAmong, planAmong}
+use Rattle.sheet.specs.Read.{read_among}
+use Rattle.sheet.specs.Sheet.{Sound, refused, behind, continue, scan_among, plan_among}
 
 module _ (n w : ℕ) (s : List ℕ) where
-  pub read-end : (i : ℕ) → length s ≤ i → readAmong n w s i ≡ End
-  unfolding readAmong
-  read-end i h = rw (le-leb _ _ h)
+  pub read_end : (i : ℕ) → length s ≤ i → read_among n w s i ≡ End
+  unfolding read_among
+  read_end i h = rw (le-leb _ _ h)
 
   -- one command, a fault or the end, where f commands may come still
-  pub scan-got : (f g i : ℕ) (d : Decoded) → f ≡ suc g → readAmong n w s i ≡ Got d → scanAmong n f w s i ≡ behind i (scanAmong n g w s d.next)
-  scan-got f g i d h e = rw (h, e)
+  pub scan_got : (f g i : ℕ) (d : Decoded) → f ≡ suc g → read_among n w s i ≡ Got d → scan_among n f w s i ≡ behind i (scan_among n g w s d.next)
+  scan_got f g i d h e = rw (h, e)
 
-  pub scan-fault : (f i : ℕ) (r : Refusal) → 0 < f → readAmong n w s i ≡ Fault r → scanAmong n f w s i ≡ refused r i
-  scan-fault zero i r h e = absurd (omega arith)
-  scan-fault (suc f) i r h e = ap (λ (r : Read). continue r i (scanAmong n f w s)) e
+  pub scan_fault : (f i : ℕ) (r : Refusal) → 0 < f → read_among n w s i ≡ Fault r → scan_among n f w s i ≡ refused r i
+  scan_fault zero i r h e = absurd (omega arith)
+  scan_fault (suc f) i r h e = ap (λ (r : Read). continue r i (scan_among n f w s)) e
 
-  pub scan-end : (f i : ℕ) → readAmong n w s i ≡ End → scanAmong n f w s i ≡ record { offsets = []; outcome = Sound }
-  scan-end zero i e = refl
-  scan-end (suc f) i e = ap (λ (r : Read). continue r i (scanAmong n f w s)) e
+  pub scan_end : (f i : ℕ) → read_among n w s i ≡ End → scan_among n f w s i ≡ record { offsets = []; outcome = Sound }
+  scan_end zero i e = refl
+  scan_end (suc f) i e = ap (λ (r : Read). continue r i (scan_among n f w s)) e
 
   -- a sheet of at most 4,096 bytes, and a longer one
-  pub plan-scanned : length s ≤ 4096 → scanAmong n (length s) w s 0 ≡ planAmong n w s
-  unfolding planAmong
-  plan-scanned h = rw (le-ltb 4096 (length s) h)
+  pub plan_scanned : length s ≤ 4096 → scan_among n (length s) w s 0 ≡ plan_among n w s
+  unfolding plan_among
+  plan_scanned h = rw (le-ltb 4096 (length s) h)
 
-  pub plan-long : 4096 < length s → refused Sheet 0 ≡ planAmong n w s
-  unfolding planAmong
-  plan-long h = rw (lt-ltb 4096 (length s) h)
+  pub plan_long : 4096 < length s → refused Sheet 0 ≡ plan_among n w s
+  unfolding plan_among
+  plan_long h = rw (lt-ltb 4096 (length s) h)

@@ -2,13 +2,13 @@
 use mathlib.Core.Path.{◌≡◌, refl}
 use mathlib.Core.List.{List, [], ◌∷◌, sum}
 use Prim.Native.Nat.{ℕ, ◌+◌}
-use Rattle.sheet.specs.Work.{unitsAmong, totalUnitsAmong}
+use Rattle.sheet.specs.Work.{units_among, total_units_among}
 
 module _ (n w : ℕ) (s : List ℕ) where
-  pub units-none : totalUnitsAmong n w s [] ≡ 0
+  pub units_none : total_units_among n w s [] ≡ 0
   unfolding sum
-  units-none = refl
+  units_none = refl
 
-  pub units-more : (i : ℕ) (l : List ℕ) → totalUnitsAmong n w s (i ∷ l) ≡ unitsAmong n w s i + totalUnitsAmong n w s l
+  pub units_more : (i : ℕ) (l : List ℕ) → total_units_among n w s (i ∷ l) ≡ units_among n w s i + total_units_among n w s l
   unfolding sum
-  units-more i l = refl
+  units_more i l = refl

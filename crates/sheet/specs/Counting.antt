@@ -8,40 +8,40 @@ use Rattle.sheet.specs.declared.Decoded.{Decoded}
 use Rattle.sheet.specs.declared.Read.{Read}
 use Rattle.sheet.specs.declared.Read.TheVariants.{Got, Fault, End}
 use Rattle.sheet.specs.Units.{units}
-use Rattle.sheet.specs.Read.{readAt}
+use Rattle.sheet.specs.Read.{read_at}
 use Rattle.sheet.specs.Sheet.{plan_of}
 use Rattle.sheet.specs.Effect.{undone}
 use Rattle.invertible.specs.RoundTrip.{Direction}
-use Rattle.sheet.specs.Run.{turned, order, runAnswer}
+use Rattle.sheet.specs.Run.{turned, order, run_answer}
 
 -- of a command that was read, with opcode b: 0 units for 05 and 06, and 1 for every other
 pub record ReadUnits (b : ℕ) (d : Decoded) : Type 0 where
-  pub of-command : d.units ≡ units d.command
-  pub of-swap : b ≡ 5 → d.units ≡ 0
-  pub of-flip : b ≡ 6 → d.units ≡ 0
+  pub of_command : d.units ≡ units d.command
+  pub of_swap : b ≡ 5 → d.units ≡ 0
+  pub of_flip : b ≡ 6 → d.units ≡ 0
   pub of_others : (b ≡ 5 → ⊥) → (b ≡ 6 → ⊥) → d.units ≡ 1
 
 abbrev pub ReadingTells : Type 0
-ReadingTells = (w : ℕ) (s : List ℕ) (i : ℕ) (d : Decoded) → readAt w s i ≡ Got d → ReadUnits (get_or s i 0) d
+ReadingTells = (w : ℕ) (s : List ℕ) (i : ℕ) (d : Decoded) → read_at w s i ≡ Got d → ReadUnits (get_or s i 0) d
 
 -- a command and the one that undoes it have the same units
 abbrev pub UndoneAlike : Type 0
 UndoneAlike = (c : Command) → units (undone c) ≡ units c
 
 -- the units of what a run in the direction does at an offset: of the command, or of the one that undoes it
-abbrev pub unitsDone : Direction → Read → ℕ
-unitsDone g (Got d) = units (turned g d.command)
-unitsDone g (Fault r) = 0
-unitsDone g End = 0
+abbrev pub units_done : Direction → Read → ℕ
+units_done g (Got d) = units (turned g d.command)
+units_done g (Fault r) = 0
+units_done g End = 0
 
 -- .. and of all that it does, in the order in which it does it
-abbrev pub runUnits : Direction → ℕ → List ℕ → ℕ
-runUnits g w s = sum ◌+◌ 0 (map (λ i. unitsDone g (readAt w s i)) (order g (plan_of w s).offsets))
+abbrev pub run_units : Direction → ℕ → List ℕ → ℕ
+run_units g w s = sum ◌+◌ 0 (map (λ i. units_done g (read_at w s i)) (order g (plan_of w s).offsets))
 
 -- a run that is not refused answers the units of what it does, in either direction, and these are 1,365 at most: 4,096 / 3
 pub record RunUnits (g : Direction) (w : ℕ) (s : List ℕ) (n : ℕ) : Type 0 where
-  pub done : n ≡ runUnits g w s
+  pub done : n ≡ run_units g w s
   pub most : n ≤ 1365
 
 abbrev pub RunsCount : Type 0
-RunsCount = (g : Direction) (w : ℕ) (s b : List ℕ) (n : ℕ) → runAnswer w s b ≡ Done n → RunUnits g w s n
+RunsCount = (g : Direction) (w : ℕ) (s b : List ℕ) (n : ℕ) → run_answer w s b ≡ Done n → RunUnits g w s n

@@ -4,20 +4,20 @@ use Rattle.std.specs.Prelude.{◌≡◌, List, [], ℕ, ◌≤◌, length}
 use Rattle.answer.specs.declared.Refusal.{Refusal}
 use Rattle.sheet.specs.declared.Decoded.{Decoded}
 use Rattle.sheet.specs.declared.Read.TheVariants.{Got, Fault, End}
-use Rattle.sheet.specs.Read.{readAmong}
-use Rattle.sheet.specs.Sheet.{Sound, Plan, refused, behind, scanAmong}
+use Rattle.sheet.specs.Read.{read_among}
+use Rattle.sheet.specs.Sheet.{Sound, Plan, refused, behind, scan_among}
 
 -- the plan of a sheet from offset i on, with no count of steps: a command and the plan from the offset behind it, a fault, or the sheet's end
 pub data PlanFrom (n w : ℕ) (s : List ℕ) : ℕ → Plan → Type 0 where
-  at-command : {i : ℕ} {d : Decoded} {p : Plan} → readAmong n w s i ≡ Got d → PlanFrom n w s d.next p → PlanFrom n w s i (behind i p)
-  at-fault : {i : ℕ} {r : Refusal} → readAmong n w s i ≡ Fault r → PlanFrom n w s i (refused r i)
-  at-end : {i : ℕ} → readAmong n w s i ≡ End → PlanFrom n w s i (record { offsets = []; outcome = Sound })
+  at_command : {i : ℕ} {d : Decoded} {p : Plan} → read_among n w s i ≡ Got d → PlanFrom n w s d.next p → PlanFrom n w s i (behind i p)
+  at_fault : {i : ℕ} {r : Refusal} → read_among n w s i ≡ Fault r → PlanFrom n w s i (refused r i)
+  at_end : {i : ℕ} → read_among n w s i ≡ End → PlanFrom n w s i (record { offsets = []; outcome = Sound })
 
 -- what `length s` steps find is the plan, there is no other, and more steps change nothing
 pub record Enough (n w : ℕ) (s : List ℕ) (i : ℕ) : Type 0 where
-  pub plan : PlanFrom n w s i (scanAmong n (length s) w s i)
-  pub only : (p : Plan) → PlanFrom n w s i p → p ≡ scanAmong n (length s) w s i
-  pub more : (f : ℕ) → length s ≤ f → scanAmong n f w s i ≡ scanAmong n (length s) w s i
+  pub plan : PlanFrom n w s i (scan_among n (length s) w s i)
+  pub only : (p : Plan) → PlanFrom n w s i p → p ≡ scan_among n (length s) w s i
+  pub more : (f : ℕ) → length s ≤ f → scan_among n f w s i ≡ scan_among n (length s) w s i
 
 -- for every number of places, width, sheet and offset
 abbrev pub StepsEnough : Type 0

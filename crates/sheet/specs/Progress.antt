@@ -2,8 +2,8 @@
 use Rattle.std.specs.Prelude.{List, ℕ, zero, suc, ◌+◌, length}
 use Rattle.sheet.specs.declared.Read.{Read}
 use Rattle.sheet.specs.declared.Read.TheVariants.{Got, Fault, End}
-use Rattle.sheet.specs.Read.{readAt}
-use Rattle.sheet.specs.Sheet.{scanFrom}
+use Rattle.sheet.specs.Read.{read_at}
+use Rattle.sheet.specs.Sheet.{scan_from}
 use Rattle.sheet.specs.Effect.{effect}
 
 -- the offset that was reached, where the next command stands if there is one; the units of the commands done; and the vectors
@@ -12,24 +12,24 @@ pub record RunState : Type 0 where
   pub units : ℕ
   pub vectors : List (List ℕ)
 
-abbrev pub runState : ℕ → ℕ → List (List ℕ) → RunState
-runState i t v = record { offset = i; units = t; vectors = v }
+abbrev pub run_state : ℕ → ℕ → List (List ℕ) → RunState
+run_state i t v = record { offset = i; units = t; vectors = v }
 
 -- nothing is done yet, from offset i on
-abbrev pub startingAt : ℕ → List (List ℕ) → RunState
-startingAt i v = runState i 0 v
+abbrev pub starting_at : ℕ → List (List ℕ) → RunState
+starting_at i v = run_state i 0 v
 
 -- one command more, by what stands at the offset that was reached; where none does, the state stays
 abbrev pub advanced : ℕ → List ℕ → Read → RunState → RunState
-advanced w s (Got d) p = runState d.next (p.units + d.units) (effect w s d.command p.vectors)
+advanced w s (Got d) p = run_state d.next (p.units + d.units) (effect w s d.command p.vectors)
 advanced w s (Fault r) p = p
 advanced w s End p = p
 
 -- the state after k commands more of the sheet s, at width w, or after those that come before its end or its first fault if they are fewer
-abbrev pub stateAfter : ℕ → ℕ → List ℕ → RunState → RunState
-stateAfter zero w s p = p
-stateAfter (suc k) w s p = stateAfter k w s (advanced w s (readAt w s p.offset) p)
+abbrev pub state_after : ℕ → ℕ → List ℕ → RunState → RunState
+state_after zero w s p = p
+state_after (suc k) w s p = state_after k w s (advanced w s (read_at w s p.offset) p)
 
 -- the offsets of the commands that remain, from offset i on up to the sheet's end or its first fault
 abbrev pub remaining : ℕ → List ℕ → ℕ → List ℕ
-remaining w s i = (scanFrom (length s) w s i).offsets
+remaining w s i = (scan_from (length s) w s i).offsets

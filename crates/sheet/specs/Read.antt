@@ -11,16 +11,16 @@ use Rattle.sheet.specs.declared.Read.TheVariants.{Got, Fault, End}
 use Rattle.sheet.specs.Units.{units}
 
 -- the number of vectors: V0 to V7
-abbrev pub placeCount : ℕ
-placeCount = 8
+abbrev pub place_count : ℕ
+place_count = 8
 
 -- the bytes that a command takes at width w, by its opcode b: 01 d s to 05 d s; 06 d; 07 d K and 08 d K, where K takes w bytes
 abbrev pub size_of : ℕ → ℕ → ℕ
 size_of w b = cond (ltb b 6) 3 (cond (eqb b 6) 2 (w + 2))
 
 -- the command of two places with opcode b, 01 to 05
-abbrev pub twoPlaceCommand : ℕ → Places → Command
-twoPlaceCommand b p =
+abbrev pub two_place_command : ℕ → Places → Command
+two_place_command b p =
     cond (eqb b 1) (Lmul p)
     (cond (eqb b 2) (Rmul p)
     (cond (eqb b 3) (Ldiv p)
@@ -28,42 +28,42 @@ twoPlaceCommand b p =
     (Swap p))))
 
 -- the command of one place with opcode b, 06 to 08; K stands at offset k
-abbrev pub onePlaceCommand : ℕ → ℕ → ℕ → Command
-onePlaceCommand b d k = cond (eqb b 6) (Flip d) (cond (eqb b 7) (Kmul d k) (Kdiv d k))
+abbrev pub one_place_command : ℕ → ℕ → ℕ → Command
+one_place_command b d k = cond (eqb b 6) (Flip d) (cond (eqb b 7) (Kmul d k) (Kdiv d k))
 
 -- a command that was read, with the offset `next` behind it and its units
 abbrev pub got : Command → ℕ → Read
 got c next = Got (record { command = c; next = next; units = units c })
 
 -- a command of two places: both are below n, and they differ
-abbrev pub twoPlacesAmong : ℕ → ℕ → Places → ℕ → Read
-twoPlacesAmong n b p next =
+abbrev pub two_places_among : ℕ → ℕ → Places → ℕ → Read
+two_places_among n b p next =
     cond (leb n p.d || leb n p.s) (Fault Place)
     (cond (eqb p.d p.s) (Fault SamePlace)
-    (got (twoPlaceCommand b p) next))
+    (got (two_place_command b p) next))
 
 -- a command of one place
-abbrev pub onePlaceAmong : ℕ → ℕ → ℕ → ℕ → ℕ → Read
-onePlaceAmong n b d k next = cond (leb n d) (Fault Place) (got (onePlaceCommand b d k) next)
+abbrev pub one_place_among : ℕ → ℕ → ℕ → ℕ → ℕ → Read
+one_place_among n b d k next = cond (leb n d) (Fault Place) (got (one_place_command b d k) next)
 
 -- what stands at offset i of the sheet s, with opcode b: its end; 8, no opcode; 9, the sheet ends inside the command; 10 and 11 by the places
-abbrev pub readWith : ℕ → ℕ → List ℕ → ℕ → ℕ → Read
-readWith n w s i b =
+abbrev pub read_with : ℕ → ℕ → List ℕ → ℕ → ℕ → Read
+read_with n w s i b =
     cond (leb (length s) i) End
     (cond (eqb b 0 || ltb 8 b) (Fault Opcode)
     (cond (ltb (length s) (i + size_of w b)) (Fault Truncated)
-    (cond (ltb b 6) (twoPlacesAmong n b (record { d = get_or s (i + 1) 0; s = get_or s (i + 2) 0 }) (i + size_of w b))
-    (onePlaceAmong n b (get_or s (i + 1) 0) (i + 2) (i + size_of w b)))))
+    (cond (ltb b 6) (two_places_among n b (record { d = get_or s (i + 1) 0; s = get_or s (i + 2) 0 }) (i + size_of w b))
+    (one_place_among n b (get_or s (i + 1) 0) (i + 2) (i + size_of w b)))))
 
-unfoldable pub readAmong : ℕ → ℕ → List ℕ → ℕ → Read
-readAmong n w s i = readWith n w s i (get_or s i 0)
+unfoldable pub read_among : ℕ → ℕ → List ℕ → ℕ → Read
+read_among n w s i = read_with n w s i (get_or s i 0)
 
 -- among the eight
-abbrev pub twoPlaces : ℕ → Places → ℕ → Read
-twoPlaces b p next = twoPlacesAmong placeCount b p next
+abbrev pub two_places : ℕ → Places → ℕ → Read
+two_places b p next = two_places_among place_count b p next
 
-abbrev pub onePlace : ℕ → ℕ → ℕ → ℕ → Read
-onePlace b d k next = onePlaceAmong placeCount b d k next
+abbrev pub one_place : ℕ → ℕ → ℕ → ℕ → Read
+one_place b d k next = one_place_among place_count b d k next
 
-abbrev pub readAt : ℕ → List ℕ → ℕ → Read
-readAt w s i = readAmong placeCount w s i
+abbrev pub read_at : ℕ → List ℕ → ℕ → Read
+read_at w s i = read_among place_count w s i

@@ -4,7 +4,7 @@ use Rattle.answer.specs.declared.Answer.{Answer}
 use Rattle.invertible.specs.Invertible.{Each}
 use Rattle.invertible.specs.RoundTrip.{Direction, other, RoundTrip}
 use Rattle.memory.specs.Bytes.{Bytes}
-use Rattle.sheet.specs.Run.{runAnswer, runBytes}
+use Rattle.sheet.specs.Run.{run_answer, run_bytes}
 
 -- a run is its direction, its width and its sheet
 pub record Run : Type 0 where
@@ -13,11 +13,11 @@ pub record Run : Type 0 where
   pub sheet : List ℕ
 
 -- a run's answer, and the lent bytes after it
-abbrev pub answerTo : Run → List ℕ → Answer
-answerTo r b = runAnswer r.width r.sheet b
+abbrev pub answer_to : Run → List ℕ → Answer
+answer_to r b = run_answer r.width r.sheet b
 
 abbrev pub after : Run → List ℕ → List ℕ
-after r b = runBytes r.direction r.width r.sheet b
+after r b = run_bytes r.direction r.width r.sheet b
 
 -- a run with its own width and sheet and the other direction
 abbrev pub exchanged : Run → Run
@@ -29,4 +29,4 @@ Sheets l = Each (λ r. Bytes r.sheet) l
 
 -- The way home of every list of runs finds the starting bytes, and each run on it answers what it answered on the way out
 abbrev pub RoundTrips : Type 0
-RoundTrips = (l : List Run) → Sheets l → (b : List ℕ) → Bytes b → RoundTrip exchanged after answerTo l b
+RoundTrips = (l : List Run) → Sheets l → (b : List ℕ) → Bytes b → RoundTrip exchanged after answer_to l b

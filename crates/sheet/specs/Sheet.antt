@@ -4,7 +4,7 @@ use Rattle.answer.specs.declared.Refusal.{Refusal}
 use Rattle.answer.specs.declared.Refusal.TheVariants.{Sheet}
 use Rattle.sheet.specs.declared.Read.{Read}
 use Rattle.sheet.specs.declared.Read.TheVariants.{Got, Fault, End}
-use Rattle.sheet.specs.Read.{placeCount, readAmong}
+use Rattle.sheet.specs.Read.{place_count, read_among}
 
 -- every command is sound, or there is a first fault: its refusal, and the offset of the faulty command's first byte
 pub data Outcome : Type 0 where
@@ -30,21 +30,21 @@ continue End i rest = record { offsets = []; outcome = Sound }
 
 -- the plan from offset i on, in at most f steps. A command takes at least two bytes, so `length s` steps are enough, and a scan of as many never ends
 -- for lack of them: the law is `StepsEnough`, in Enough.antt.
-abbrev pub scanAmong : ℕ → ℕ → ℕ → List ℕ → ℕ → Plan
-scanAmong n zero w s i = record { offsets = []; outcome = Sound }
-scanAmong n (suc f) w s i = continue (readAmong n w s i) i (scanAmong n f w s)
+abbrev pub scan_among : ℕ → ℕ → ℕ → List ℕ → ℕ → Plan
+scan_among n zero w s i = record { offsets = []; outcome = Sound }
+scan_among n (suc f) w s i = continue (read_among n w s i) i (scan_among n f w s)
 
 -- a whole sheet at width w: 7, over 4,096 bytes; then command by command
-unfoldable pub planAmong : ℕ → ℕ → List ℕ → Plan
-planAmong n w s = cond (ltb 4096 (length s)) (refused Sheet 0) (scanAmong n (length s) w s 0)
+unfoldable pub plan_among : ℕ → ℕ → List ℕ → Plan
+plan_among n w s = cond (ltb 4096 (length s)) (refused Sheet 0) (scan_among n (length s) w s 0)
 
 -- among the eight
-abbrev pub scanFrom : ℕ → ℕ → List ℕ → ℕ → Plan
-scanFrom f w s i = scanAmong placeCount f w s i
+abbrev pub scan_from : ℕ → ℕ → List ℕ → ℕ → Plan
+scan_from f w s i = scan_among place_count f w s i
 
 abbrev pub plan_of : ℕ → List ℕ → Plan
-plan_of w s = planAmong placeCount w s
+plan_of w s = plan_among place_count w s
 
 -- the number of commands, of a sheet without a fault
-abbrev pub commandCount : ℕ → List ℕ → ℕ
-commandCount w s = length (plan_of w s).offsets
+abbrev pub command_count : ℕ → List ℕ → ℕ
+command_count w s = length (plan_of w s).offsets

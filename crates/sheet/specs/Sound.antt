@@ -1,7 +1,7 @@
 -- What holds of a command that was read: its places are places, its K lies in the sheet, and it has bytes enough for its units. Of contracts, only
 -- those of functions inside the kit cite this. n is the number of places; `SoundCommand` and `SoundDecoded` are at eight.
 use Rattle.std.specs.Prelude.{◌≡◌, ℕ, ◌+◌, ◌*◌, ◌≤◌, ◌<◌}
-use Rattle.sheet.specs.Read.{placeCount}
+use Rattle.sheet.specs.Read.{place_count}
 use Rattle.sheet.specs.declared.Places.{Places}
 use Rattle.sheet.specs.declared.Command.{Command}
 use Rattle.sheet.specs.declared.Command.TheVariants.{Lmul, Rmul, Ldiv, Rdiv, Swap, Flip, Kmul, Kdiv}
@@ -30,7 +30,7 @@ SoundCommandAmong n w m (Kmul d k) = SoundVector n w m d k
 SoundCommandAmong n w m (Kdiv d k) = SoundVector n w m d k
 
 abbrev pub SoundCommand : ℕ → ℕ → Command → Type 0
-SoundCommand w m c = SoundCommandAmong placeCount w m c
+SoundCommand w m c = SoundCommandAmong place_count w m c
 
 -- .. read at offset i: the offset behind it is further on, and in the sheet; it counts one unit at most, and where a K takes a byte or more, one that
 -- counts takes three bytes or more
@@ -42,7 +42,7 @@ pub record SoundDecodedAmong (n w m i : ℕ) (d : Decoded) : Type 0 where
   pub taken : 1 ≤ w → i + 3 * d.units ≤ d.next
 
 abbrev pub SoundDecoded : ℕ → ℕ → ℕ → Decoded → Type 0
-SoundDecoded w m i d = SoundDecodedAmong placeCount w m i d
+SoundDecoded w m i d = SoundDecodedAmong place_count w m i d
 
 -- of what was read at offset i
 abbrev pub SoundRead : ℕ → ℕ → ℕ → ℕ → Read → Type 0

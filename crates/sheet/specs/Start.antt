@@ -12,10 +12,10 @@ among i [] = false
 among i (j ∷ l) = eqb i j || among i l
 
 -- i is the offset of the first byte of a command, before the sheet's first fault if it has one, or the sheet's length
-abbrev pub isStart : ℕ → List ℕ → ℕ → Bool
-isStart w s i = among i (plan_of w s).offsets || eqb i (length s)
+abbrev pub is_start : ℕ → List ℕ → ℕ → Bool
+is_start w s i = among i (plan_of w s).offsets || eqb i (length s)
 
 -- behind the answer of a test: where that is a refusal it stays; then 14, there is no start
-abbrev pub thenStart : Bool → Answer → Answer
-thenStart start (Done n) = unless start Start (Done n)
-thenStart start (Refused r at) = Refused r at
+abbrev pub then_start : Bool → Answer → Answer
+then_start start (Done n) = unless start Start (Done n)
+then_start start (Refused r at) = Refused r at

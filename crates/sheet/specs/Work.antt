@@ -8,40 +8,40 @@ use Rattle.sheet.specs.declared.Read.{Read}
 use Rattle.sheet.specs.declared.Read.TheVariants.{Got, Fault, End}
 use Rattle.sheet.specs.declared.Summary.{Summary}
 use Rattle.sheet.specs.declared.Summary.TheVariants.{Whole, Faulty}
-use Rattle.sheet.specs.Read.{placeCount, readAmong}
+use Rattle.sheet.specs.Read.{place_count, read_among}
 use Rattle.sheet.specs.Sheet as Sheet
 use Rattle.sheet.specs.Sheet.{Plan, Outcome}
 
 -- the units that reading tells
-abbrev pub unitsIn : Read → ℕ
-unitsIn (Got d) = d.units
-unitsIn (Fault r) = 0
-unitsIn End = 0
+abbrev pub units_in : Read → ℕ
+units_in (Got d) = d.units
+units_in (Fault r) = 0
+units_in End = 0
 
 -- .. at an offset
-abbrev pub unitsAmong : ℕ → ℕ → List ℕ → ℕ → ℕ
-unitsAmong n w s i = unitsIn (readAmong n w s i)
+abbrev pub units_among : ℕ → ℕ → List ℕ → ℕ → ℕ
+units_among n w s i = units_in (read_among n w s i)
 
 -- the units of the commands at the offsets
-abbrev pub totalUnitsAmong : ℕ → ℕ → List ℕ → List ℕ → ℕ
-totalUnitsAmong n w s l = sum ◌+◌ 0 (map (unitsAmong n w s) l)
+abbrev pub total_units_among : ℕ → ℕ → List ℕ → List ℕ → ℕ
+total_units_among n w s l = sum ◌+◌ 0 (map (units_among n w s) l)
 
 -- among the eight
-abbrev pub unitsAt : ℕ → List ℕ → ℕ → ℕ
-unitsAt w s i = unitsAmong placeCount w s i
+abbrev pub units_at : ℕ → List ℕ → ℕ → ℕ
+units_at w s i = units_among place_count w s i
 
-abbrev pub totalUnits : ℕ → List ℕ → List ℕ → ℕ
-totalUnits w s l = totalUnitsAmong placeCount w s l
+abbrev pub total_units : ℕ → List ℕ → List ℕ → ℕ
+total_units w s l = total_units_among place_count w s l
 
 -- what the check of a sheet finds, with the offsets l of its commands: their number, and their units
 abbrev pub summed : ℕ → List ℕ → List ℕ → Outcome → Summary
-summed w s l Sheet.Sound = Whole (length l) (totalUnits w s l)
+summed w s l Sheet.Sound = Whole (length l) (total_units w s l)
 summed w s l (Sheet.Faulty r i) = Faulty r i
 
 abbrev pub summary : ℕ → List ℕ → Plan → Summary
 summary w s p = summed w s p.offsets p.outcome
 
 -- .. as an answer: the units, or the first fault
-abbrev pub foundAnswer : Summary → Answer
-foundAnswer (Whole n t) = Done t
-foundAnswer (Faulty r i) = Refused r i
+abbrev pub found_answer : Summary → Answer
+found_answer (Whole n t) = Done t
+found_answer (Faulty r i) = Refused r i

@@ -11,50 +11,50 @@ use Rattle.answer.specs.declared.Answer.{Answer}
 use Rattle.answer.specs.declared.Answer.TheVariants.{Done, Refused}
 use Rattle.answer.specs.declared.Refusal.{Refusal}
 use Rattle.answer.specs.declared.Refusal.TheVariants.{Start}
-use Rattle.answer.specs.Refuse.{isDone}
-use Rattle.quasigroup.specs.Tables.{knownWidth}
-use Rattle.sheet.specs.Read.{placeCount}
+use Rattle.answer.specs.Refuse.{is_done}
+use Rattle.quasigroup.specs.Tables.{known_width}
+use Rattle.sheet.specs.Read.{place_count}
 use Rattle.sheet.specs.Sheet.{Sound, plan_of}
-use Rattle.sheet.specs.Run.{runAnswer}
-use Rattle.sheet.specs.Start.{isStart, thenStart}
-use Rattle.sheet.proofs.SheetAnswer.{done-passed}
-use Rattle.slice.specs.Slice.{sliceTests}
+use Rattle.sheet.specs.Run.{run_answer}
+use Rattle.sheet.specs.Start.{is_start, then_start}
+use Rattle.sheet.proofs.SheetAnswer.{done_passed}
+use Rattle.slice.specs.Slice.{slice_tests}
 
 -- what holds of each refusal under its condition, and of the run's success where there is a start, holds of the tests
-start-cases : (P : Answer → Type 0) (t : Bool) (a : Answer) → ((r : Refusal) (at : ℕ) → a ≡ Refused r at → P (Refused r at)) → P (Refused Start 0)
-    → ((n : ℕ) → a ≡ Done n → t ≡ true → P (Done n)) → P (thenStart t a)
-start-cases P true (Done n) f g h = h n refl refl
-start-cases P false (Done n) f g h = g
-start-cases P t (Refused r at) f g h = f r at refl
+start_cases : (P : Answer → Type 0) (t : Bool) (a : Answer) → ((r : Refusal) (at : ℕ) → a ≡ Refused r at → P (Refused r at)) → P (Refused Start 0)
+    → ((n : ℕ) → a ≡ Done n → t ≡ true → P (Done n)) → P (then_start t a)
+start_cases P true (Done n) f g h = h n refl refl
+start_cases P false (Done n) f g h = g
+start_cases P t (Refused r at) f g h = f r at refl
 
 -- a success of the tests is the run's
-pub start-done : (t : Bool) (a : Answer) (n : ℕ) → thenStart t a ≡ Done n → a ≡ Done n
-start-done true (Done m) n e = e
-start-done false (Done m) n e = let z : ◌≡◌ {A = ℕ} 0 1 = cc in absurd (omega arith)
-start-done t (Refused r at) n e = e
+pub start_done : (t : Bool) (a : Answer) (n : ℕ) → then_start t a ≡ Done n → a ≡ Done n
+start_done true (Done m) n e = e
+start_done false (Done m) n e = let z : ◌≡◌ {A = ℕ} 0 1 = cc in absurd (omega arith)
+start_done t (Refused r at) n e = e
 
 -- what is known behind the tests of a run, and of a slice
 pub record RunPassed (w : ℕ) (s b : List ℕ) : Type 0 where
-  pub known : knownWidth w ≡ true
-  pub size : length b ≡ placeCount * w
+  pub known : known_width w ≡ true
+  pub size : length b ≡ place_count * w
   pub sound : (plan_of w s).outcome ≡ Sound
 
 pub record SlicePassed (w : ℕ) (s : List ℕ) (i : ℕ) (b : List ℕ) : Type 0 where
   pub run : RunPassed w s b
-  pub start : isStart w s i ≡ true
+  pub start : is_start w s i ≡ true
 
 module _ (w : ℕ) (s b : List ℕ) where
-  pub run-passed : isDone (runAnswer w s b) ≡ true → RunPassed w s b
-  run-passed h =
-      let fit = eqb (length b) (placeCount * w) in
-      let p = done-passed placeCount w fit s _ h in
-      record { known = p.width; size = eqb-true (length b) (placeCount * w) p.operands; sound = p.sheet }
+  pub run_passed : is_done (run_answer w s b) ≡ true → RunPassed w s b
+  run_passed h =
+      let fit = eqb (length b) (place_count * w) in
+      let p = done_passed place_count w fit s _ h in
+      record { known = p.width; size = eqb-true (length b) (place_count * w) p.operands; sound = p.sheet }
 
   module _ (i : ℕ) where
-    pub by_tests : (P : Answer → Type 0) → ((r : Refusal) (at : ℕ) → runAnswer w s b ≡ Refused r at → P (Refused r at)) → P (Refused Start 0)
-        → (SlicePassed w s i b → (n : ℕ) → P (Done n)) → P (sliceTests w s i b)
-    by_tests P f g h = start-cases P (isStart w s i) (runAnswer w s b) f g (λ n e t. h (record { run = run-passed (ap isDone e); start = t }) n)
+    pub by_tests : (P : Answer → Type 0) → ((r : Refusal) (at : ℕ) → run_answer w s b ≡ Refused r at → P (Refused r at)) → P (Refused Start 0)
+        → (SlicePassed w s i b → (n : ℕ) → P (Done n)) → P (slice_tests w s i b)
+    by_tests P f g h = start_cases P (is_start w s i) (run_answer w s b) f g (λ n e t. h (record { run = run_passed (ap is_done e); start = t }) n)
 
-    pub tests-passed : isDone (sliceTests w s i b) ≡ true → SlicePassed w s i b
-    tests-passed =
-        by_tests (λ a. isDone a ≡ true → SlicePassed w s i b) (λ r at _ e. absurd (false≢true e)) (λ e. absurd (false≢true e)) (λ p n e. p)
+    pub tests_passed : is_done (slice_tests w s i b) ≡ true → SlicePassed w s i b
+    tests_passed =
+        by_tests (λ a. is_done a ≡ true → SlicePassed w s i b) (λ r at _ e. absurd (false≢true e)) (λ e. absurd (false≢true e)) (λ p n e. p)

@@ -4,16 +4,16 @@ use Rattle.std.specs.Prelude.{◌≡◌, true, false, ℕ, ◌+◌, ◌≤◌, l
 use mathlib.Core.List.{List, [], ◌∷◌, sum}
 use Rattle.answer.specs.declared.Answer.TheVariants as Answers
 use Rattle.answer.specs.declared.Refusal.{Refusal}
-use Rattle.answer.specs.Refuse.{isDone}
+use Rattle.answer.specs.Refuse.{is_done}
 use Rattle.invertible.specs.Invertible.{stepped, outputs, Each}
 use Rattle.invertible.specs.RoundTrip.{Forward, Backward}
 use Rattle.memory.specs.Bytes.{Bytes}
-use Rattle.sheet.specs.Sheet.{commandCount}
-use Rattle.sheet.specs.Run.{runAnswer, runBytes}
-use Rattle.sheet.specs.Start.{isStart}
+use Rattle.sheet.specs.Sheet.{command_count}
+use Rattle.sheet.specs.Run.{run_answer, run_bytes}
+use Rattle.sheet.specs.Start.{is_start}
 use Rattle.slice.specs.declared.SliceAnswer.{SliceAnswer}
 use Rattle.slice.specs.declared.SliceAnswer.TheVariants.{Reached, Refused}
-use Rattle.slice.specs.Slice.{sliceAnswer, sliceBytes}
+use Rattle.slice.specs.Slice.{slice_answer, slice_bytes}
 use Rattle.slice.specs.Injective.{is_reached}
 
 -- where the next slice starts, the sum of the units so far, and the lent bytes
@@ -22,35 +22,35 @@ pub record ChainState : Type 0 where
   pub units : ℕ
   pub bytes : List ℕ
 
-abbrev pub chainStart : List ℕ → ChainState
-chainStart b = record { offset = 0; units = 0; bytes = b }
+abbrev pub chain_start : List ℕ → ChainState
+chain_start b = record { offset = 0; units = 0; bytes = b }
 
 -- what the next slice answers, with budget k
-abbrev pub nextAnswer : ℕ → List ℕ → ℕ → ChainState → SliceAnswer
-nextAnswer w s k c = sliceAnswer k w s c.offset c.bytes
+abbrev pub next_answer : ℕ → List ℕ → ℕ → ChainState → SliceAnswer
+next_answer w s k c = slice_answer k w s c.offset c.bytes
 
 -- .. and the state after it, with the bytes b that it left: a refused slice tells no offset, so that the next one starts where it did
 abbrev pub linked : SliceAnswer → List ℕ → ChainState → ChainState
 linked (Reached offset units) b c = record { offset = offset; units = c.units + units; bytes = b }
 linked (Refused r at) b c = record { offset = c.offset; units = c.units; bytes = b }
 
-abbrev pub nextState : ℕ → List ℕ → ℕ → ChainState → ChainState
-nextState w s k c = linked (nextAnswer w s k c) (sliceBytes k w s c.offset c.bytes) c
+abbrev pub next_state : ℕ → List ℕ → ℕ → ChainState → ChainState
+next_state w s k c = linked (next_answer w s k c) (slice_bytes k w s c.offset c.bytes) c
 
 -- the state after a slice for each of the budgets l, for none the start, and what each of them answers
 abbrev pub chain : ℕ → List ℕ → List ℕ → List ℕ → ChainState
-chain w s l b = stepped (nextState w s) l (chainStart b)
+chain w s l b = stepped (next_state w s) l (chain_start b)
 
-abbrev pub chainAnswers : ℕ → List ℕ → List ℕ → List ℕ → List SliceAnswer
-chainAnswers w s l b = outputs (nextState w s) (nextAnswer w s) l (chainStart b)
+abbrev pub chain_answers : ℕ → List ℕ → List ℕ → List ℕ → List SliceAnswer
+chain_answers w s l b = outputs (next_state w s) (next_answer w s) l (chain_start b)
 
 -- the sum of the budgets
-abbrev pub totalBudget : List ℕ → ℕ
-totalBudget l = sum ◌+◌ 0 l
+abbrev pub total_budget : List ℕ → ℕ
+total_budget l = sum ◌+◌ 0 l
 
 -- a success whose offset is a start
 abbrev pub ReachesStart : ℕ → List ℕ → SliceAnswer → Type 0
-ReachesStart w s (Reached offset units) = isStart w s offset ≡ true
+ReachesStart w s (Reached offset units) = is_start w s offset ≡ true
 ReachesStart w s (Refused r at) = ⊥
 
 -- Two slices from any state, the second from the offset that the first reached and over the bytes that it left, leave what one with both budgets leaves. The
@@ -60,38 +60,38 @@ pub data BothAnswer (w : ℕ) (s : List ℕ) (first second : SliceAnswer) : Type
   reached : ReachesStart w s first → ReachesStart w s second → BothAnswer w s first second
 
 pub record TwoSlices (w : ℕ) (s : List ℕ) (j k : ℕ) (c : ChainState) : Type 0 where
-  pub state : nextState w s k (nextState w s j c) ≡ nextState w s (j + k) c
-  pub answers : BothAnswer w s (nextAnswer w s j c) (nextAnswer w s k (nextState w s j c))
+  pub state : next_state w s k (next_state w s j c) ≡ next_state w s (j + k) c
+  pub answers : BothAnswer w s (next_answer w s j c) (next_answer w s k (next_state w s j c))
 
 abbrev pub CallsCompose : Type 0
 CallsCompose = (w : ℕ) (s : List ℕ) (j k : ℕ) (c : ChainState) → Bytes s → Bytes c.bytes → TwoSlices w s j k c
 
 -- every slice is refused with r at i, and nothing moves
 pub record ChainRefused (w : ℕ) (s b l : List ℕ) (r : Refusal) (i : ℕ) : Type 0 where
-  pub answers : Each (λ a. a ≡ Refused r i) (chainAnswers w s l b)
-  pub state : chain w s l b ≡ chainStart b
+  pub answers : Each (λ a. a ≡ Refused r i) (chain_answers w s l b)
+  pub state : chain w s l b ≡ chain_start b
 
 -- No slice is refused, and each reaches a start. The chain is at the sheet's end exactly when its budgets sum to at least the number of commands; then the
 -- units and the bytes are those of the whole run, which answers n. How the sum is cut makes no difference: one slice with all of it leaves the same
 pub record ChainDone (w : ℕ) (s b l : List ℕ) (n : ℕ) : Type 0 where
-  pub answers : Each (ReachesStart w s) (chainAnswers w s l b)
-  pub ends : commandCount w s ≤ totalBudget l → (chain w s l b).offset ≡ length s
-  pub ends-only : (chain w s l b).offset ≡ length s → commandCount w s ≤ totalBudget l
+  pub answers : Each (ReachesStart w s) (chain_answers w s l b)
+  pub ends : command_count w s ≤ total_budget l → (chain w s l b).offset ≡ length s
+  pub ends_only : (chain w s l b).offset ≡ length s → command_count w s ≤ total_budget l
   pub units : (chain w s l b).offset ≡ length s → (chain w s l b).units ≡ n
-  pub bytes : (chain w s l b).offset ≡ length s → (chain w s l b).bytes ≡ runBytes Forward w s b
-  pub uncut : chain w s l b ≡ chain w s (totalBudget l ∷ []) b
+  pub bytes : (chain w s l b).offset ≡ length s → (chain w s l b).bytes ≡ run_bytes Forward w s b
+  pub uncut : chain w s l b ≡ chain w s (total_budget l ∷ []) b
 
 -- for every width, sheet, lent bytes and list of budgets, by what the whole run answers
 pub record ChainsRun : Type 0 where
-  pub refused : (w : ℕ) (s b l : List ℕ) (r : Refusal) (i : ℕ) → runAnswer w s b ≡ Answers.Refused r i → ChainRefused w s b l r i
-  pub done : (w : ℕ) (s b l : List ℕ) → Bytes s → Bytes b → (n : ℕ) → runAnswer w s b ≡ Answers.Done n → ChainDone w s b l n
+  pub refused : (w : ℕ) (s b l : List ℕ) (r : Refusal) (i : ℕ) → run_answer w s b ≡ Answers.Refused r i → ChainRefused w s b l r i
+  pub done : (w : ℕ) (s b l : List ℕ) → Bytes s → Bytes b → (n : ℕ) → run_answer w s b ≡ Answers.Done n → ChainDone w s b l n
 
 -- the way home of a chain: a backward run of the sheet finds the starting bytes, and answers what the whole run answers
 pub record ChainReturns (w : ℕ) (s b l : List ℕ) : Type 0 where
-  pub state : runBytes Backward w s (chain w s l b).bytes ≡ b
-  pub same : runAnswer w s (chain w s l b).bytes ≡ runAnswer w s b
+  pub state : run_bytes Backward w s (chain w s l b).bytes ≡ b
+  pub same : run_answer w s (chain w s l b).bytes ≡ run_answer w s b
 
 -- .. of every chain that is at the sheet's end, and of every one that is refused
 pub record ChainsReturn : Type 0 where
-  pub at-end : (w : ℕ) (s b l : List ℕ) → Bytes s → Bytes b → (chain w s l b).offset ≡ length s → ChainReturns w s b l
-  pub refused : (w : ℕ) (s b l : List ℕ) → isDone (runAnswer w s b) ≡ false → ChainReturns w s b l
+  pub at_end : (w : ℕ) (s b l : List ℕ) → Bytes s → Bytes b → (chain w s l b).offset ≡ length s → ChainReturns w s b l
+  pub refused : (w : ℕ) (s b l : List ℕ) → is_done (run_answer w s b) ≡ false → ChainReturns w s b l

@@ -2,8 +2,8 @@
 use Rattle.std.specs.Prelude.{◌≡◌, Bool, true, false, List, ℕ, ◌/◌, ◌%◌, ◌^◌, ◌≤◌, ◌<◌, ltb}
 use Rattle.slice.specs.declared.SliceAnswer.{SliceAnswer}
 use Rattle.slice.specs.declared.SliceAnswer.TheVariants.{Reached, Refused}
-use Rattle.slice.specs.Slice.{sliceAnswer}
-use Rattle.slice.specs.Number.{sliceNumber}
+use Rattle.slice.specs.Slice.{slice_answer}
+use Rattle.slice.specs.Number.{slice_number}
 
 abbrev pub is_reached : SliceAnswer → Bool
 is_reached (Reached offset units) = true
@@ -16,11 +16,11 @@ SliceFits (Refused r at) = at < 2 ^ 32
 
 -- every answer of a slice is one of these
 abbrev pub EverySliceFits : Type 0
-EverySliceFits = (k w : ℕ) (s : List ℕ) (i : ℕ) (b : List ℕ) → SliceFits (sliceAnswer k w s i b)
+EverySliceFits = (k w : ℕ) (s : List ℕ) (i : ℕ) (b : List ℕ) → SliceFits (slice_answer k w s i b)
 
 -- no two answers share a number; a comparison with 2^32 finds a refusal; and a success's number has its units above the 16 bits of its offset
 pub record SliceNumbersInjective : Type 0 where
-  pub answer : (a b : SliceAnswer) → SliceFits a → SliceFits b → sliceNumber a ≡ sliceNumber b → a ≡ b
-  pub refusal : (a : SliceAnswer) → SliceFits a → is_reached a ≡ ltb (sliceNumber a) (2 ^ 32)
-  pub units : (offset units : ℕ) → SliceFits (Reached offset units) → sliceNumber (Reached offset units) / 2 ^ 16 ≡ units
-  pub offset : (offset units : ℕ) → SliceFits (Reached offset units) → sliceNumber (Reached offset units) % 2 ^ 16 ≡ offset
+  pub answer : (a b : SliceAnswer) → SliceFits a → SliceFits b → slice_number a ≡ slice_number b → a ≡ b
+  pub refusal : (a : SliceAnswer) → SliceFits a → is_reached a ≡ ltb (slice_number a) (2 ^ 32)
+  pub units : (offset units : ℕ) → SliceFits (Reached offset units) → slice_number (Reached offset units) / 2 ^ 16 ≡ units
+  pub offset : (offset units : ℕ) → SliceFits (Reached offset units) → slice_number (Reached offset units) % 2 ^ 16 ≡ offset

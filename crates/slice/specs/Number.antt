@@ -11,5 +11,5 @@ abbrev pub answer_of : SliceAnswer → Answer
 answer_of (Reached offset units) = Answers.Done (units * 2 ^ 16 + offset)
 answer_of (Refused r at) = Answers.Refused r at
 
-abbrev pub sliceNumber : SliceAnswer → ℕ
-sliceNumber a = number_of (answer_of a)
+abbrev pub slice_number : SliceAnswer → ℕ
+slice_number a = number_of (answer_of a)

@@ -1,7 +1,7 @@
 // Slices: forward runs that start at an offset of their sheet and do at most as many commands as their budget. Definitions in specs/, laws in proofs/, what
 // a slice answers, and that as a number.
 ghost use Rattle.std.specs.Prelude.{◌≡◌};
-ghost use Rattle.slice.specs.Number.{sliceNumber};
+ghost use Rattle.slice.specs.Number.{slice_number};
 
 use answer::{Answer, Refusal};
 
@@ -14,7 +14,7 @@ pub enum SliceAnswer {
 
 // The answer as the one 64-bit number that C receives.
 pub fn number(a: SliceAnswer) -> u64
-    ensures { result ≡ sliceNumber a }
+    ensures { result ≡ slice_number a }
 {
     match a {
         SliceAnswer::Reached(offset, units) => units as u64 * 65536 + offset as u64,

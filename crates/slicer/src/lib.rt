@@ -1,16 +1,16 @@
 // Slices of a load sheet over lent vectors: forward runs from an offset on, of as many commands as their budget has.
 ghost use Rattle.std.specs.Prelude.{◌≡◌, true};
-ghost use Rattle.quasigroup.specs.Tables.{knownWidth};
-ghost use Rattle.slice.specs.Slice.{sliceAnswer, sliceBytes};
+ghost use Rattle.quasigroup.specs.Tables.{known_width};
+ghost use Rattle.slice.specs.Slice.{slice_answer, slice_bytes};
 
 use answer::{Answer, Refusal};
 use slice::SliceAnswer;
 
 // A slice at a width of document 01's. (The tests answer the units of the whole sheet, and the slice those of what it did.)
 fn slice_at(width: u32, vectors: &mut [u8], sheet: &[u8], start: usize, budget: u16) -> SliceAnswer
-    requires { knownWidth width ≡ true }
-    ensures value { result ≡ sliceAnswer budget width sheet.now start vectors.old }
-    ensures vectors_after { vectors.new ≡ sliceBytes budget width sheet.now start vectors.old }
+    requires { known_width width ≡ true }
+    ensures value { result ≡ slice_answer budget width sheet.now start vectors.old }
+    ensures vectors_after { vectors.new ≡ slice_bytes budget width sheet.now start vectors.old }
 {
     if !precheck::vectors_fit(width, vectors.len()) {
         return SliceAnswer::Refused(Refusal::Operand, 0);
@@ -35,8 +35,8 @@ pub fn run_slice(
     offset: u32,
     budget: u16,
 ) -> SliceAnswer
-    ensures value { result ≡ sliceAnswer budget width sheet.now offset vectors.old }
-    ensures vectors_after { vectors.new ≡ sliceBytes budget width sheet.now offset vectors.old }
+    ensures value { result ≡ slice_answer budget width sheet.now offset vectors.old }
+    ensures vectors_after { vectors.new ≡ slice_bytes budget width sheet.now offset vectors.old }
 {
     let start = offset as usize;
     if width == 32 {

@@ -1,9 +1,9 @@
 // The loop of a slice: commands from an offset on, counted against a budget. (Crate interpreter has the loops of whole runs.)
 ghost use Rattle.std.specs.Prelude.{◌≡◌, true, ◌*◌, length};
-ghost use Rattle.quasigroup.specs.Tables.{knownWidth};
-ghost use Rattle.sheet.specs.Read.{placeCount};
-ghost use Rattle.sheet.specs.Run.{vectorsIn};
-ghost use Rattle.sheet.specs.Progress.{runState, startingAt, stateAfter};
+ghost use Rattle.quasigroup.specs.Tables.{known_width};
+ghost use Rattle.sheet.specs.Read.{place_count};
+ghost use Rattle.sheet.specs.Run.{vectors_in};
+ghost use Rattle.sheet.specs.Progress.{run_state, starting_at, state_after};
 
 use sheet::Read;
 
@@ -22,8 +22,8 @@ pub struct Progress {
 
 // The state after `budget` commands from the offset `start` on, or those that remain up to the sheet's end or its first fault if they are fewer.
 pub fn advance(width: u32, sheet: &[u8], start: usize, budget: u16, vectors: &mut [u8]) -> Progress
-    requires { (knownWidth width ≡ true) × (length vectors.old ≡ placeCount * width) }
-    ensures { runState result.offset result.units (vectorsIn width vectors.new) ≡ stateAfter budget width sheet.now (startingAt start (vectorsIn width vectors.old)) }
+    requires { (known_width width ≡ true) × (length vectors.old ≡ place_count * width) }
+    ensures { run_state result.offset result.units (vectors_in width vectors.new) ≡ state_after budget width sheet.now (starting_at start (vectors_in width vectors.old)) }
 {
     let mut at = start;
     let mut units: usize = 0;

@@ -1,11 +1,11 @@
 // The constant tables: rotation amounts, the squares as lists of the places of their ones, their inverses, and the starting pipes.
 // Where code reads a table it reads the constant, which is folded into it. The function beside each constant says what the table is.
 ghost use Rattle.std.specs.Prelude.{◌≡◌, [], ◌∷◌, map};
-ghost use Rattle.quasigroup.specs.Tables.{leftSums, rightSums, amounts};
+ghost use Rattle.quasigroup.specs.Tables.{left_sums, right_sums, amounts};
 ghost use Rattle.quasigroup.specs.Product.{others};
-ghost use Rattle.quasigroup.specs.Barred.{barredLeftSums};
+ghost use Rattle.quasigroup.specs.Barred.{barred_left_sums};
 ghost use Rattle.digest.specs.Start.{start224, start256, start384, start512};
-ghost use Rattle.tables.specs.Places.{unxorPlaces, plusPlaces, minusPlaces};
+ghost use Rattle.tables.specs.Places.{unxor_places, plus_places, minus_places};
 
 // The rotation amounts: two rows a width, over X and over Y.
 pub const AMOUNTS: [[u32; 8]; 4] = [
@@ -34,7 +34,7 @@ pub const LEFT_SUMS: [[usize; 5]; 8] = [
 ];
 
 pub fn left_sums() -> [[usize; 5]; 8]
-    ensures { result ≡ leftSums }
+    ensures { result ≡ left_sums }
 {
     LEFT_SUMS
 }
@@ -52,7 +52,7 @@ pub const BARRED_LEFT_SUMS: [[usize; 5]; 8] = [
 ];
 
 pub fn barred_left_sums() -> [[usize; 5]; 8]
-    ensures { result ≡ barredLeftSums }
+    ensures { result ≡ barred_left_sums }
 {
     BARRED_LEFT_SUMS
 }
@@ -70,7 +70,7 @@ pub const RIGHT_SUMS: [[usize; 5]; 8] = [
 ];
 
 pub fn right_sums() -> [[usize; 5]; 8]
-    ensures { result ≡ rightSums }
+    ensures { result ≡ right_sums }
 {
     RIGHT_SUMS
 }
@@ -88,7 +88,7 @@ pub const LEFT_XORS: [[usize; 3]; 8] = [
 ];
 
 pub fn left_xors() -> [[usize; 3]; 8]
-    ensures { result ≡ map others leftSums }
+    ensures { result ≡ map others left_sums }
 {
     LEFT_XORS
 }
@@ -106,7 +106,7 @@ pub const RIGHT_XORS: [[usize; 3]; 8] = [
 ];
 
 pub fn right_xors() -> [[usize; 3]; 8]
-    ensures { result ≡ map others rightSums }
+    ensures { result ≡ map others right_sums }
 {
     RIGHT_XORS
 }
@@ -125,7 +125,7 @@ pub const LEFT_UNXORS: [[usize; 5]; 8] = [
 ];
 
 pub fn left_unxors() -> [[usize; 5]; 8]
-    ensures { result ≡ unxorPlaces }
+    ensures { result ≡ unxor_places }
 {
     LEFT_UNXORS
 }
@@ -144,7 +144,7 @@ pub const LEFT_PLUS: [[usize; 2]; 8] = [
 ];
 
 pub fn left_plus() -> [[usize; 2]; 8]
-    ensures { result ≡ plusPlaces }
+    ensures { result ≡ plus_places }
 {
     LEFT_PLUS
 }
@@ -162,7 +162,7 @@ pub const LEFT_MINUS: [[usize; 5]; 8] = [
 ];
 
 pub fn left_minus() -> [[usize; 5]; 8]
-    ensures { result ≡ minusPlaces }
+    ensures { result ≡ minus_places }
 {
     LEFT_MINUS
 }

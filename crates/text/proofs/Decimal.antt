@@ -18,25 +18,25 @@ enough zero g n h k = absurd (omega arith)
 enough (suc f) zero n h k = absurd (omega arith)
 enough (suc f) (suc g) n h k = one_more f g n (dec_le 10 n) (λ l. enough f g (n / 10) (omega arith) (omega arith))
 
-one-digit : (n : ℕ) → n < 10 → (48 + n) ∷ [] ≡ decimal n
+one_digit : (n : ℕ) → n < 10 → (48 + n) ∷ [] ≡ decimal n
 unfolding decimal
-one-digit n h = rw (lt-ltb n 10 h)
+one_digit n h = rw (lt-ltb n 10 h)
 
-more-digits : (n : ℕ) → 10 ≤ n → decimal (n / 10) ++ ((48 + n % 10) ∷ []) ≡ decimal n
+more_digits : (n : ℕ) → 10 ≤ n → decimal (n / 10) ++ ((48 + n % 10) ∷ []) ≡ decimal n
 unfolding decimal
-more-digits n h =
+more_digits n h =
     let a : n / 10 < suc (n / 10) = omega arith in
     let b : n / 10 < n = omega arith in
     rw (le-ltb n 10 h) (ap (λ (d : List ℕ). d ++ ((48 + n % 10) ∷ [])) (enough (suc (n / 10)) n (n / 10) a b))
 
 -- the digits that the toolchain's library writes
-pub decimal-written : (k n : ℕ) → Kit.IsDigitCount 10 1 n k → Kit.last_digits 10 k n ≡ decimal n
-decimal-written zero n h = absurd (omega (arith, h.0))
-decimal-written (suc zero) n h =
+pub decimal_written : (k n : ℕ) → Kit.IsDigitCount 10 1 n k → Kit.last_digits 10 k n ≡ decimal n
+decimal_written zero n h = absurd (omega (arith, h.0))
+decimal_written (suc zero) n h =
     let l : n < 10 = h.1 in
     let e : n % 10 ≡ n = omega arith in
-    rw (e, lt-ltb n 10 l) (one-digit n l)
-decimal-written (suc (suc k)) n h =
+    rw (e, lt-ltb n 10 l) (one_digit n l)
+decimal_written (suc (suc k)) n h =
     let p = pow-suc 10 k in
     let q = pow-suc 10 (suc k) in
     let e : suc (suc k) - 1 ≡ suc k = omega arith in
@@ -46,12 +46,12 @@ decimal-written (suc (suc k)) n h =
     let pos : 0 < 10 ^ k = one-le-pow k 10 (omega arith) in
     let ten : 10 ≤ n = omega (arith, p, low, pos) in
     let f : Kit.IsDigitCount 10 1 (n / 10) (suc k) = (omega arith, omega (arith, q, h.1), λ g. rw e' (omega (arith, p, low))) in
-    rw (lt-ltb (n % 10) 10 m) (ap (λ (d : List ℕ). d ++ ((48 + n % 10) ∷ [])) (decimal-written (suc k) (n / 10) f) ∙ more-digits n ten)
+    rw (lt-ltb (n % 10) 10 m) (ap (λ (d : List ℕ). d ++ ((48 + n % 10) ∷ [])) (decimal_written (suc k) (n / 10) f) ∙ more_digits n ten)
 
 -- a number of 64 bits has at most twenty
-twenty-by : (k n : ℕ) → Kit.IsDigitCount 10 1 n k → n < 2 ^ 64 → Dec (k ≤ 20) → k ≤ 20
-twenty-by k n h l (yes d) = d
-twenty-by k n h l (no d) =
+twenty_by : (k n : ℕ) → Kit.IsDigitCount 10 1 n k → n < 2 ^ 64 → Dec (k ≤ 20) → k ≤ 20
+twenty_by k n h l (yes d) = d
+twenty_by k n h l (no d) =
     let low : 10 ^ (k - 1) ≤ n = h.2 (omega arith) in
     let up : 20 ≤ k - 1 = omega arith in
     let ten : 0 < 10 = omega arith in
@@ -59,4 +59,4 @@ twenty-by k n h l (no d) =
     absurd (omega arith)
 
 pub twenty : (k n : ℕ) → Kit.IsDigitCount 10 1 n k → n < 2 ^ 64 → k ≤ 20
-twenty k n h l = twenty-by k n h l (dec_le k 20)
+twenty k n h l = twenty_by k n h l (dec_le k 20)

@@ -12,7 +12,7 @@ use lib.ListN.{length, get_or, set, length-set}
 use lib.Seq.{get_or-set_same, get_or-set_other}
 use Rattle.answer.proofs.Tests.{decide}
 use Rattle.shuffle.specs.Transposed.{transposed}
-use Rattle.shuffle.proofs.Transposed.{transposed-length, transposed-at, by_rows}
+use Rattle.shuffle.proofs.Transposed.{transposed_length, transposed_at, by_rows}
 
 -- ---- the loop over both halves
 
@@ -23,12 +23,12 @@ pub record Interleaving (x : List ℕ) (n : ℕ) (r : List ℕ) : Type 0 where
   pub turns : (b e : ℕ) → b < n → e < 2 → get_or r (b * 2 + e) 0 ≡ get_or x (e * 64 + b) 0
 
 module _ (x : List ℕ) where
-  pub interleaving-none : (r : List ℕ) → length r ≡ 128 → Interleaving x 0 r
-  interleaving-none r h = record { bound = omega arith; size = h; turns = λ b e f g. absurd (omega arith) }
+  pub interleaving_none : (r : List ℕ) → length r ≡ 128 → Interleaving x 0 r
+  interleaving_none r h = record { bound = omega arith; size = h; turns = λ b e f g. absurd (omega arith) }
 
   module _ {n : ℕ} {r : List ℕ} (w : Interleaving x n r) where
-    pub interleaving-next : n < 64 → Interleaving x (n + 1) (set (set r (2 * n) (get_or x n 0)) (2 * n + 1) (get_or x (n + 64) 0))
-    interleaving-next h =
+    pub interleaving_next : n < 64 → Interleaving x (n + 1) (set (set r (2 * n) (get_or x n 0)) (2 * n + 1) (get_or x (n + 64) 0))
+    interleaving_next h =
         let l = set r (2 * n) (get_or x n 0) in
         let y = get_or x (n + 64) 0 in
         let s = length-set r (2 * n) (get_or x n 0) in
@@ -53,10 +53,10 @@ module _ (x : List ℕ) where
               ∙ w.turns b e (omega (arith, eqb-false (b * 2 + e) (2 * n) u, eqb-false (b * 2 + e) (2 * n + 1) t)) g));
         }
 
-    pub interleaving-all : 64 ≤ n → r ≡ transposed 2 64 x
-    interleaving-all h =
-        by_rows 2 64 (lit≤ tt) r (transposed 2 64 x) w.size (transposed-length 2 64 x)
-        (λ b e f g. w.turns b e (omega arith) g ∙ sym (transposed-at 2 64 x b e f g))
+    pub interleaving_all : 64 ≤ n → r ≡ transposed 2 64 x
+    interleaving_all h =
+        by_rows 2 64 (lit≤ tt) r (transposed 2 64 x) w.size (transposed_length 2 64 x)
+        (λ b e f g. w.turns b e (omega arith) g ∙ sym (transposed_at 2 64 x b e f g))
 
 -- ---- twice as many rows
 
@@ -69,25 +69,25 @@ module _ (n m : ℕ) (s : List ℕ) where
   once = transposed n (2 * m) s
 
   -- byte b of column a, or of the one m columns on, as e is 0 or 1
-  pair-at : (a b e : ℕ) → a < m → b < n → e < 2 → get_or (transposed 2 (m * n) once) ((a * n + b) * 2 + e) 0 ≡ get_or s ((b * 2 + e) * m + a) 0
-  pair-at a b e f g h =
+  pair_at : (a b e : ℕ) → a < m → b < n → e < 2 → get_or (transposed 2 (m * n) once) ((a * n + b) * 2 + e) 0 ≡ get_or s ((b * 2 + e) * m + a) 0
+  pair_at a b e f g h =
       let p : e * (m * n) + (a * n + b) ≡ (e * m + a) * n + b = omega (arith, mul_assoc e m n, add-mul (e * m) a n) in
       let q : b * (2 * m) + (e * m + a) ≡ (b * 2 + e) * m + a = omega (arith, add-mul (b * 2) e m, mul_assoc b 2 m) in
-      transposed-at 2 (m * n) once (a * n + b) e (omega (arith, mul-le-mul_right {m = 1 + a} {n = m} n (omega arith), suc-mul a n)) h
+      transposed_at 2 (m * n) once (a * n + b) e (omega (arith, mul-le-mul_right {m = 1 + a} {n = m} n (omega arith), suc-mul a n)) h
       ∙ ap (λ (i : ℕ). get_or once i 0) p
-      ∙ transposed-at n (2 * m) s (e * m + a) b (omega (arith, mul-le-mul_right {m = e} {n = 1} m (omega arith))) g
+      ∙ transposed_at n (2 * m) s (e * m + a) b (omega (arith, mul-le-mul_right {m = e} {n = 1} m (omega arith))) g
       ∙ ap (λ (i : ℕ). get_or s i 0) q
 
   -- the bytes of both halves of their transpose in turn are the transpose of 2 n rows of m bytes
   pub doubled : 0 < n → transposed 2 (m * n) once ≡ transposed (2 * n) m s
   doubled positive =
       by_rows (2 * n) m (omega arith) (transposed 2 (m * n) once) (transposed (2 * n) m s)
-      (transposed-length 2 (m * n) once ∙ omega (arith, twice m n)) (transposed-length (2 * n) m s)
+      (transposed_length 2 (m * n) once ∙ omega (arith, twice m n)) (transposed_length (2 * n) m s)
       (λ a r f g.
       let p : a * (2 * n) + r ≡ (a * n + r / 2) * 2 + r % 2 = omega (arith, twice a n) in
       let q : r / 2 * 2 + r % 2 ≡ r = omega arith in
-      ap (λ (i : ℕ). get_or (transposed 2 (m * n) once) i 0) p ∙ pair-at a (r / 2) (r % 2) f (omega arith) (omega arith)
-      ∙ ap (λ (i : ℕ). get_or s (i * m + a) 0) q ∙ sym (transposed-at (2 * n) m s a r f g))
+      ap (λ (i : ℕ). get_or (transposed 2 (m * n) once) i 0) p ∙ pair_at a (r / 2) (r % 2) f (omega arith) (omega arith)
+      ∙ ap (λ (i : ℕ). get_or s (i * m + a) 0) q ∙ sym (transposed_at (2 * n) m s a r f g))
 
 -- ---- of 128 bytes
 
@@ -95,16 +95,16 @@ module _ (n m : ℕ) (s : List ℕ) where
 abbrev pub repeated : ℕ → List ℕ → List ℕ
 repeated t s = transposed (2 ^ t) (2 ^ (7 - t)) s
 
-pub repeated-none : (s : List ℕ) → length s ≡ 128 → s ≡ repeated 0 s
-repeated-none s h =
-    by_rows 1 128 (lit≤ tt) s (transposed 1 128 s) h (transposed-length 1 128 s)
+pub repeated_none : (s : List ℕ) → length s ≡ 128 → s ≡ repeated 0 s
+repeated_none s h =
+    by_rows 1 128 (lit≤ tt) s (transposed 1 128 s) h (transposed_length 1 128 s)
     (λ b a f g.
     let z : a ≡ 0 = omega arith in
     let p : b * 1 + a ≡ a * 128 + b = omega arith in
-    ap (λ (i : ℕ). get_or s i 0) p ∙ sym (transposed-at 1 128 s b a f g))
+    ap (λ (i : ℕ). get_or s i 0) p ∙ sym (transposed_at 1 128 s b a f g))
 
-pub repeated-more : (t : ℕ) (s : List ℕ) → t < 7 → transposed 2 64 (repeated t s) ≡ repeated (t + 1) s
-repeated-more t s h =
+pub repeated_more : (t : ℕ) (s : List ℕ) → t < 7 → transposed 2 64 (repeated t s) ≡ repeated (t + 1) s
+repeated_more t s h =
     let m = 2 ^ (6 - t) in
     let n = 2 ^ t in
     let e : suc (6 - t) ≡ 7 - t = omega arith in

@@ -11,11 +11,11 @@ zeros zero = []
 zeros (suc n) = 0 ∷ zeros n
 
 -- k bytes of s from place i on, d apart, copied into out from place o on, e apart
-unfoldable pub stridedCopy : ℕ → List ℕ → ℕ → ℕ → List ℕ → ℕ → ℕ → List ℕ
-stridedCopy zero s i d out o e = out
-stridedCopy (suc k) s i d out o e = set (stridedCopy k s i d out o e) (o + k * e) (get_or s (i + k * d) 0)
+unfoldable pub strided_copy : ℕ → List ℕ → ℕ → ℕ → List ℕ → ℕ → ℕ → List ℕ
+strided_copy zero s i d out o e = out
+strided_copy (suc k) s i d out o e = set (strided_copy k s i d out o e) (o + k * e) (get_or s (i + k * d) 0)
 
 -- k rows of q bytes each, those of s from place i on, d apart, copied into out from place o on, e apart
-unfoldable pub rowsCopy : ℕ → ℕ → List ℕ → ℕ → ℕ → List ℕ → ℕ → ℕ → List ℕ
-rowsCopy k zero s i d out o e = out
-rowsCopy k (suc q) s i d out o e = stridedCopy k s (i + q) d (rowsCopy k q s i d out o e) (o + q) e
+unfoldable pub rows_copy : ℕ → ℕ → List ℕ → ℕ → ℕ → List ℕ → ℕ → ℕ → List ℕ
+rows_copy k zero s i d out o e = out
+rows_copy k (suc q) s i d out o e = strided_copy k s (i + q) d (rows_copy k q s i d out o e) (o + q) e

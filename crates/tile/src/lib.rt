@@ -2,12 +2,12 @@
 // are moved side by side, a byte of each and then the next, so that the compiler takes sixteen bytes of every row together.
 ghost use Rattle.std.specs.Prelude.{◌≡◌, ◌*◌, ◌-◌, ◌^◌, ◌≤◌, length};
 ghost use Rattle.shuffle.specs.Transposed.{transposed};
-ghost use Rattle.tile.specs.Copy.{Inside, zeros, stridedCopy, rowsCopy};
+ghost use Rattle.tile.specs.Copy.{Inside, zeros, strided_copy, rows_copy};
 
 // Copies `k` bytes of `s` from `i` on, `d` apart, into `out` from `o` on, `e` apart.
 fn copy_strided(out: &mut [u8], o: usize, e: usize, s: &[u8], i: usize, d: usize, k: usize)
     requires { Inside k 1 o e (length out.old) × Inside k 1 i d (length s.now) }
-    ensures { out.new ≡ stridedCopy k s.now i d out.old o e }
+    ensures { out.new ≡ strided_copy k s.now i d out.old o e }
 {
     let mut j = 0;
     while j < k {
@@ -21,7 +21,7 @@ fn copy_strided(out: &mut [u8], o: usize, e: usize, s: &[u8], i: usize, d: usize
 // The tile of `k` rows of `q` bytes each, those of `s` from `i` on, `d` apart.
 pub fn load(s: &[u8], i: usize, d: usize, k: usize, q: usize) -> [u8; 128]
     requires { (k * q ≡ 128) × Inside k q i d (length s.now) }
-    ensures { result ≡ rowsCopy k q s.now i d (zeros 128) 0 q }
+    ensures { result ≡ rows_copy k q s.now i d (zeros 128) 0 q }
 {
     let mut r = [0u8; 128];
     let mut n = 0;
@@ -67,7 +67,7 @@ pub fn transpose(x: [u8; 128], times: usize) -> [u8; 128]
 // The `k` rows of `q` bytes each of the tile `x` to `out` from `o` on, `e` apart.
 pub fn store(out: &mut [u8], o: usize, e: usize, x: [u8; 128], k: usize, q: usize)
     requires { (k * q ≡ 128) × Inside k q o e (length out.old) }
-    ensures { out.new ≡ rowsCopy k q x 0 q out.old o e }
+    ensures { out.new ≡ rows_copy k q x 0 q out.old o e }
 {
     let mut n = 0;
     while n < q {

@@ -1,13 +1,13 @@
 // The digest of a message that stands in two parts: a hash in progress is fed the one and then the other, so that neither is copied.
 ghost use Rattle.std.specs.Prelude.{◌≡◌, ◌++◌};
-ghost use Rattle.digest.specs.Kind.{narrowKind, wideKind};
-ghost use Rattle.digest.specs.OneCall.{digestAnswer, digestOut, oneCallAnswer, oneCallOut};
+ghost use Rattle.digest.specs.Kind.{narrow_kind, wide_kind};
+ghost use Rattle.digest.specs.OneCall.{digest_answer, digest_out, one_call_answer, one_call_out};
 
 use answer::Answer;
 
 fn narrow_digest(size: u32, first: &[u8], second: &[u8], out: &mut [u8]) -> Answer
-    ensures value { result ≡ digestAnswer narrowKind size (first.now ++ second.now) out.old }
-    ensures out_after { out.new ≡ digestOut narrowKind size (first.now ++ second.now) out.old }
+    ensures value { result ≡ digest_answer narrow_kind size (first.now ++ second.now) out.old }
+    ensures out_after { out.new ≡ digest_out narrow_kind size (first.now ++ second.now) out.old }
 {
     let o = narrow::open(size);
     let opening = o.answer;
@@ -31,8 +31,8 @@ fn narrow_digest(size: u32, first: &[u8], second: &[u8], out: &mut [u8]) -> Answ
 }
 
 fn wide_digest(size: u32, first: &[u8], second: &[u8], out: &mut [u8]) -> Answer
-    ensures value { result ≡ digestAnswer wideKind size (first.now ++ second.now) out.old }
-    ensures out_after { out.new ≡ digestOut wideKind size (first.now ++ second.now) out.old }
+    ensures value { result ≡ digest_answer wide_kind size (first.now ++ second.now) out.old }
+    ensures out_after { out.new ≡ digest_out wide_kind size (first.now ++ second.now) out.old }
 {
     let o = wide::open(size);
     let opening = o.answer;
@@ -57,8 +57,8 @@ fn wide_digest(size: u32, first: &[u8], second: &[u8], out: &mut [u8]) -> Answer
 
 // What the one call answers and writes for `first` and then `second`.
 pub fn digest(size: u32, first: &[u8], second: &[u8], out: &mut [u8]) -> Answer
-    ensures value { result ≡ oneCallAnswer size (first.now ++ second.now) out.old }
-    ensures out_after { out.new ≡ oneCallOut size (first.now ++ second.now) out.old }
+    ensures value { result ≡ one_call_answer size (first.now ++ second.now) out.old }
+    ensures out_after { out.new ≡ one_call_out size (first.now ++ second.now) out.old }
 {
     if refusal::is_size(384, 512, size as u64) {
         return wide_digest(size, first, second, out);

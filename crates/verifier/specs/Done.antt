@@ -3,7 +3,7 @@ use Rattle.std.specs.Prelude.{ℕ}
 use Rattle.replay.specs.declared.ReplayAnswer.{ReplayAnswer}
 use Rattle.replay.specs.declared.ReplayAnswer.TheVariants.{Holds, FirstFalse, Refused}
 
-abbrev pub commandsDone : ReplayAnswer → ℕ → ℕ
-commandsDone Holds n = n
-commandsDone (FirstFalse k f) n = k
-commandsDone (Refused r at) n = 0
+abbrev pub commands_done : ReplayAnswer → ℕ → ℕ
+commands_done Holds n = n
+commands_done (FirstFalse k f) n = k
+commands_done (Refused r at) n = 0

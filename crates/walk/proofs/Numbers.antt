@@ -28,9 +28,9 @@ use types.Part.{Part, whole, look_in}
 use types.Run.{Reads, Walks, Finds, Opds, init, forget, stop, load, and_then, alloc1, pass1, free1}
 use denote.Steps.{nothing}
 
-abbrev pub locals-then : List Width → List Local → List Local
-locals-then [] ls = ls
-locals-then (w ∷ ws) ls = local (ty_int w) value_local ∷ locals-then ws ls
+abbrev pub locals_then : List Width → List Local → List Local
+locals_then [] ls = ls
+locals_then (w ∷ ws) ls = local (ty_int w) value_local ∷ locals_then ws ls
 
 abbrev pub copies_then : List Width → ℕ → List Operand → List Operand
 copies_then [] i os = os
@@ -48,13 +48,13 @@ abbrev pub Fit : (ws : List Width) → Numbers ws → Type 0
 Fit [] xs = Unit {0}
 Fit (w ∷ ws) xs = (xs.0 < 2 ^ bits w) × Fit ws xs.1
 
-abbrev pub vals-then : (ws : List Width) → Numbers ws → List Val → List Val
-vals-then [] xs vs = vs
-vals-then (w ∷ ws) xs vs = vint w xs.0 ∷ vals-then ws xs.1 vs
+abbrev pub vals_then : (ws : List Width) → Numbers ws → List Val → List Val
+vals_then [] xs vs = vs
+vals_then (w ∷ ws) xs vs = vint w xs.0 ∷ vals_then ws xs.1 vs
 
-abbrev pub env-then : (ws : List Width) → Numbers ws → List (Ty × ℕ) → List (Ty × ℕ)
-env-then [] bs E = E
-env-then (w ∷ ws) bs E = (ty_int w, bs.0) ∷ env-then ws bs.1 E
+abbrev pub env_then : (ws : List Width) → Numbers ws → List (Ty × ℕ) → List (Ty × ℕ)
+env_then [] bs E = E
+env_then (w ∷ ws) bs E = (ty_int w, bs.0) ∷ env_then ws bs.1 E
 
 -- ---- where the locals stand. `d` is what `get_or` has past the end
 module _ (d : Ty × ℕ) where
@@ -67,11 +67,11 @@ module _ (d : Ty × ℕ) where
   further e E i [] bs at = tt
   further e E i (w ∷ ws) bs at = (at.0, further e E (suc i) ws bs.1 at.1)
 
-  stand : (ws : List Width) (bs : Numbers ws) (E : List (Ty × ℕ)) → Stand (env-then ws bs E) zero ws bs
+  stand : (ws : List Width) (bs : Numbers ws) (E : List (Ty × ℕ)) → Stand (env_then ws bs E) zero ws bs
   stand [] bs E = tt
-  stand (w ∷ ws) bs E = (refl, further (ty_int w, bs.0) (env-then ws bs.1 E) zero ws bs.1 (stand ws bs.1 E))
+  stand (w ∷ ws) bs E = (refl, further (ty_int w, bs.0) (env_then ws bs.1 E) zero ws bs.1 (stand ws bs.1 E))
 
-  behind : (ws : List Width) (bs : Numbers ws) (E : List (Ty × ℕ)) (k : ℕ) → get_or (env-then ws bs E) (past ws k) d ≡ get_or E k d
+  behind : (ws : List Width) (bs : Numbers ws) (E : List (Ty × ℕ)) (k : ℕ) → get_or (env_then ws bs E) (past ws k) d ≡ get_or E k d
   behind [] bs E k = refl
   behind (w ∷ ws) bs E k = behind ws bs.1 E k
 
@@ -123,42 +123,42 @@ module _ {M : Type 1} {𝓤 : Ura M} {𝓛 : Logic 𝓤} {K : Type 0} where
 
   -- the k-th local behind the numbers
   pub from_past : K → (ws : List Width) (bs : Numbers ws) (E : Env 𝓤 H) (k : ℕ) {Γ : List (Item 𝓤)} {e₀ e₁ : Ty × ℕ} {st : List PStep} {sp : Spot 𝓤 H}
-      → Walks K 𝓛 Γ (e₀ ∷ e₁ ∷ env-then ws bs E) (spot_of 𝓤 H E k) st sp
-      → Finds K 𝓛 Γ (e₀ ∷ e₁ ∷ env-then ws bs E) (place (suc (suc (past ws k))) st) sp
+      → Walks K 𝓛 Γ (e₀ ∷ e₁ ∷ env_then ws bs E) (spot_of 𝓤 H E k) st sp
+      → Finds K 𝓛 Γ (e₀ ∷ e₁ ∷ env_then ws bs E) (place (suc (suc (past ws k))) st) sp
   from_past t ws bs E k w = from_at t (behind (no_local 𝓤 H) ws bs E k) w
 
   -- `reads` reads a cell within the numbers'
-  load-each : K → (ws : List Width) (bs xs : Numbers ws) {Γ : List (Item 𝓤)} {E : Env 𝓤 H} {os : List Operand} {vs : List Val} (i : ℕ)
+  load_each : K → (ws : List Width) (bs xs : Numbers ws) {Γ : List (Item 𝓤)} {E : Env 𝓤 H} {os : List Operand} {vs : List Val} (i : ℕ)
       → ((τ : Ty) (b : ℕ) (v : Val) (back : Val → Item 𝓤) → Part K 𝓛 (cells 𝓤 ws bs xs) full_share τ b zero v back → Reads K 𝓛 Γ τ b zero v)
-      → Stand (no_local 𝓤 H) E i ws bs → Opds K 𝓛 Γ E os vs → Opds K 𝓛 Γ E (copies_then ws i os) (vals-then ws xs vs)
-  load-each t [] bs xs i reads at os = os
-  load-each t (w ∷ ws) bs xs i reads at os =
+      → Stand (no_local 𝓤 H) E i ws bs → Opds K 𝓛 Γ E os vs → Opds K 𝓛 Γ E (copies_then ws i os) (vals_then ws xs vs)
+  load_each t [] bs xs i reads at os = os
+  load_each t (w ∷ ws) bs xs i reads at os =
       and_then t (load t (from_at t at.0 (stop t)) (reads (ty_int w) bs.0 (vint w xs.0) _ (in_left (in_left (whole t)))))
-      (load-each t ws bs.1 xs.1 (suc i) (λ τ b v back p. reads τ b v _ (in_right p)) at.1 os)
+      (load_each t ws bs.1 xs.1 (suc i) (λ τ b v back p. reads τ b v _ (in_right p)) at.1 os)
 
   -- entry n of the context is the numbers' locals: each is copied, and then the other operands are read
-  pub load-numbers : K → (ws : List Width) (bs xs : Numbers ws) (E : Env 𝓤 H) (n : ℕ) {Γ : List (Item 𝓤)} {e₀ e₁ : Ty × ℕ} {os : List Operand}
-      {vs : List Val} → nth 𝓛 n Γ ≡ cells 𝓤 ws bs xs → Opds K 𝓛 Γ (e₀ ∷ e₁ ∷ env-then ws bs E) os vs
-      → Opds K 𝓛 Γ (e₀ ∷ e₁ ∷ env-then ws bs E) (copies_then ws 2 os) (vals-then ws xs vs)
-  load-numbers t ws bs xs E n {e₀ = e₀} {e₁ = e₁} e os =
+  pub load_numbers : K → (ws : List Width) (bs xs : Numbers ws) (E : Env 𝓤 H) (n : ℕ) {Γ : List (Item 𝓤)} {e₀ e₁ : Ty × ℕ} {os : List Operand}
+      {vs : List Val} → nth 𝓛 n Γ ≡ cells 𝓤 ws bs xs → Opds K 𝓛 Γ (e₀ ∷ e₁ ∷ env_then ws bs E) os vs
+      → Opds K 𝓛 Γ (e₀ ∷ e₁ ∷ env_then ws bs E) (copies_then ws 2 os) (vals_then ws xs vs)
+  load_numbers t ws bs xs E n {e₀ = e₀} {e₁ = e₁} e os =
       let d : Ty × ℕ = no_local 𝓤 H in
-      load-each t ws bs xs 2 (λ τ b v back p. look_in t n (subst (λ (i : Item 𝓤). Part K 𝓛 i full_share τ b zero v back) (sym e) p))
-      (further d e₀ (e₁ ∷ env-then ws bs E) 1 ws bs (further d e₁ (env-then ws bs E) 0 ws bs (stand d ws bs E))) os
+      load_each t ws bs xs 2 (λ τ b v back p. look_in t n (subst (λ (i : Item 𝓤). Part K 𝓛 i full_share τ b zero v back) (sym e) p))
+      (further d e₀ (e₁ ∷ env_then ws bs E) 1 ws bs (further d e₁ (env_then ws bs E) 0 ws bs (stand d ws bs E))) os
 
   -- ---- entering and leaving a function
-  pub alloc-numbers : K → (ws : List Width) {Γ : List (Item 𝓤)} {ls : List Local} {Kt : Env 𝓤 H → Goal 𝓤 H}
-      → ((bs : Numbers ws) → Seq K 𝓛 (rooms 𝓤 ws bs ∷ Γ) (allocs ls (λ E. Kt (env-then ws bs E)))) → Seq K 𝓛 Γ (allocs (locals-then ws ls) Kt)
-  alloc-numbers t [] k = nothing t $ k tt
-  alloc-numbers t (w ∷ ws) {ls = ls} {Kt = Kt} k = alloc1 t (λ b. alloc-numbers t ws {ls = ls} {Kt = λ E. Kt ((ty_int w, b) ∷ E)} (λ bs.
+  pub alloc_numbers : K → (ws : List Width) {Γ : List (Item 𝓤)} {ls : List Local} {Kt : Env 𝓤 H → Goal 𝓤 H}
+      → ((bs : Numbers ws) → Seq K 𝓛 (rooms 𝓤 ws bs ∷ Γ) (allocs ls (λ E. Kt (env_then ws bs E)))) → Seq K 𝓛 Γ (allocs (locals_then ws ls) Kt)
+  alloc_numbers t [] k = nothing t $ k tt
+  alloc_numbers t (w ∷ ws) {ls = ls} {Kt = Kt} k = alloc1 t (λ b. alloc_numbers t ws {ls = ls} {Kt = λ E. Kt ((ty_int w, b) ∷ E)} (λ bs.
       move t (1 ∷ 2 ∷ 0 ∷ []) $ join t $ join t $ k (b, bs)))
 
-  pub pass-numbers : K → (ws : List Width) (bs xs : Numbers ws) → Fit ws xs → {Γ : List (Item 𝓤)} {E : Env 𝓤 H} {vs : List Val} {g : Goal 𝓤 H}
-      → Step K 𝓛 (cells 𝓤 ws bs xs ∷ Γ) (passes E vs g) (rooms 𝓤 ws bs ∷ Γ) (passes (env-then ws bs E) (vals-then ws xs vs) g)
-  pass-numbers t [] bs xs fits = step (λ s. s)
-  pass-numbers t (w ∷ ws) bs xs fits = step (λ s. split t $ split t $ pass1 t (init t 0 refl (eqb_refl (bytes w), record { fits = fits.0 })) $
-      move t (2 ∷ []) $ pass-numbers t ws bs.1 xs.1 fits.1 $ move t (1 ∷ 2 ∷ 0 ∷ []) $ join t $ join t $ s)
+  pub pass_numbers : K → (ws : List Width) (bs xs : Numbers ws) → Fit ws xs → {Γ : List (Item 𝓤)} {E : Env 𝓤 H} {vs : List Val} {g : Goal 𝓤 H}
+      → Step K 𝓛 (cells 𝓤 ws bs xs ∷ Γ) (passes E vs g) (rooms 𝓤 ws bs ∷ Γ) (passes (env_then ws bs E) (vals_then ws xs vs) g)
+  pass_numbers t [] bs xs fits = step (λ s. s)
+  pass_numbers t (w ∷ ws) bs xs fits = step (λ s. split t $ split t $ pass1 t (init t 0 refl (eqb_refl (bytes w), record { fits = fits.0 })) $
+      move t (2 ∷ []) $ pass_numbers t ws bs.1 xs.1 fits.1 $ move t (1 ∷ 2 ∷ 0 ∷ []) $ join t $ join t $ s)
 
-  pub free-numbers : K → (ws : List Width) (bs xs : Numbers ws) {Γ : List (Item 𝓤)} {E : Env 𝓤 H} {g : Goal 𝓤 H}
-      → Step K 𝓛 Γ (frees E g) (cells 𝓤 ws bs xs ∷ Γ) (frees (env-then ws bs E) g)
-  free-numbers t [] bs xs = drop t
-  free-numbers t (w ∷ ws) bs xs = step (λ s. split t $ split t $ forget t 0 refl $ free1 t $ free-numbers t ws bs.1 xs.1 $ s)
+  pub free_numbers : K → (ws : List Width) (bs xs : Numbers ws) {Γ : List (Item 𝓤)} {E : Env 𝓤 H} {g : Goal 𝓤 H}
+      → Step K 𝓛 Γ (frees E g) (cells 𝓤 ws bs xs ∷ Γ) (frees (env_then ws bs E) g)
+  free_numbers t [] bs xs = drop t
+  free_numbers t (w ∷ ws) bs xs = step (λ s. split t $ split t $ forget t 0 refl $ free1 t $ free_numbers t ws bs.1 xs.1 $ s)

@@ -42,7 +42,7 @@ use denote.Triple.Entry.{on_entry}
 use denote.Triple.Spec.{Meets, triple_of}
 use denote.Triple.Walked.{says, Stays, stay_ref, stay_none, walk_of, Goes-ref, Goes-none, ends_at, walked, walk_Meets}
 use denote.Exit.{yes}
-use Rattle.walk.proofs.Types.{Types, S, R, P, P-laws, F, S_mir, F-mir, state-val, answer-val, answer-is, state-is}
+use Rattle.walk.proofs.Types.{Types, S, R, P, P-laws, F, S_mir, F-mir, state_val, answer_val, answer_is, state_is}
 
 module _ (T : Types) where
   -- the MIR of f, which calls g by the key #g
@@ -72,8 +72,8 @@ module _ (T : Types) where
     kept = (yes, (yes, tt));
   }
 
-  abbrev ended-g : Ended
-  ended-g = record {
+  abbrev ended_g : Ended
+  ended_g = record {
     signature = record { lifetimes = 0; outlives = []; params = plain (λ _. (S T)) ∷ plain (λ _. u32) ∷ []; result = plain (λ _. (F T)) };
     kept = (yes, (yes, tt));
   }
@@ -91,12 +91,12 @@ module _ (T : Types) where
             × (e.0.now ≡ T.state (opened a.0.now a.1.0)));
       }
 
-      abbrev clauses-g : Clauses 𝓤 ended-g
-      clauses-g κs a = record { ghost = Unit {0}; requires = λ _. emp 𝓤; ensures = λ _ r e. fact 𝓤 (r ≡ opened a.0 a.1.0) }
+      abbrev clauses_g : Clauses 𝓤 ended_g
+      clauses_g κs a = record { ghost = Unit {0}; requires = λ _. emp 𝓤; ensures = λ _ r e. fact 𝓤 (r ≡ opened a.0 a.1.0) }
 
     -- g's contract
     abbrev pub Value : {M : Type 1} {𝓤 : Ura M} (𝓛 : Logic 𝓤) → Contract 𝓤
-    Value {𝓤 = 𝓤} 𝓛 = triple_of 𝓛 ended-g.signature (closing 𝓛 ended-g (clauses-g 𝓤))
+    Value {𝓤 = 𝓤} 𝓛 = triple_of 𝓛 ended_g.signature (closing 𝓛 ended_g (clauses_g 𝓤))
 
     module _ {M : Type 1} {𝓤 : Ura M} (𝓛 : Logic 𝓤) (κ : Lft) (q : Share) (b o : ℕ) (γ : GName) (h : T.S.D) (n : ℕ)
         (fits : n < 2 ^ 32) where
@@ -114,9 +114,9 @@ module _ (T : Types) where
       abbrev Had : T.Pair → List (Item 𝓤)
       Had r = ‵ (fobs γ ((S T).coded.code (T.state r))) ∷ ‵ (fbor κ (Body (mem (S T)) b o γ)) ∷ ‵ (flft κ q) ∷ []
 
-      exits : (r : T.Pair) → r ≡ opened h n → Is (R T) (T.answer r) (answer-val T r ∷ []) → ent 𝓤 (⋆ 𝓛 (Had r)) (Post (answer-val T r))
+      exits : (r : T.Pair) → r ≡ opened h n → Is (R T) (T.answer r) (answer_val T r ∷ []) → ent 𝓤 (⋆ 𝓛 (Had r)) (Post (answer_val T r))
       exits r e is =
-          qed 𝓛 (Had r) ∵ suffices ! _ (ends_at 𝓛 ended stayed (clauses 𝓤) (((κ, tt), (q, tt), tt, x, at), tt) (answer-val T r) (T.answer r)
+          qed 𝓛 (Had r) ∵ suffices ! _ (ends_at 𝓛 ended stayed (clauses 𝓤) (((κ, tt), (q, tt), tt, x, at), tt) (answer_val T r) (T.answer r)
           (T.state r, (tt, tt)) (tt, (tt, tt))) $
           says ! (ap T.answer e, ap T.state e) $ nothing ! $ move ! (3 ∷ 0 ∷ []) $ join ! $ frame ! $
           feq_i ! (List Val) (vptr b o ∷ []) (vptr b o ∷ []) refl $ fjoin3 ! $
@@ -125,16 +125,16 @@ module _ (T : Types) where
 
       -- the call: what g is passed, what it asks, and what is known of its result
       abbrev to : (Value 𝓛).Ghost
-      to = ((tt, tt, tt, (h, (n, tt)), (state-val T h ∷ [], (vint w32 n ∷ [], tt))), tt)
+      to = ((tt, tt, tt, (h, (n, tt)), (state_val T h ∷ [], (vint w32 n ∷ [], tt))), tt)
 
       abbrev Gives : List (Item 𝓤)
-      Gives = ‵ ((S T).own h (state-val T h ∷ [])) ∷ ‵ ftrue ∷ ‵ (owns (u32 ∷ []) (n, tt) (vint w32 n ∷ [], tt)) ∷ []
+      Gives = ‵ ((S T).own h (state_val T h ∷ [])) ∷ ‵ ftrue ∷ ‵ (owns (u32 ∷ []) (n, tt) (vint w32 n ∷ [], tt)) ∷ []
 
       asks : ent 𝓤 (⋆ 𝓛 Gives) ((Value 𝓛).pre to)
       asks = qed 𝓛 Gives ∵ move ! (0 ∷ 2 ∷ []) $ fjoin ! $ move ! (1 ∷ 0 ∷ []) $ join ! $ frame ! $ done !
 
-      said : (r : T.Pair) → ent 𝓤 (ensured 𝓛 ended-g (clauses-g 𝓤) tt (h, (n, tt)) tt r) (fact 𝓤 (r ≡ opened h n))
-      said r = ex_e 𝓤 _ (λ ws. snd∗ 𝓤 (sem 𝓛 (lasts ended-g tt (h, (n, tt)) ws)) (fact 𝓤 (r ≡ opened h n)))
+      said : (r : T.Pair) → ent 𝓤 (ensured 𝓛 ended_g (clauses_g 𝓤) tt (h, (n, tt)) tt r) (fact 𝓤 (r ≡ opened h n))
+      said r = ex_e 𝓤 _ (λ ws. snd∗ 𝓤 (sem 𝓛 (lasts ended_g tt (h, (n, tt)) ws)) (fact 𝓤 (r ≡ opened h n)))
 
       module _ (#g : Name) (C : Calls 𝓤 H) (Λ : Loops 𝓤 H) (fm : FmC 𝓤 H 𝓛.laws C) (known : Triple 𝓤 (C #g) (Value 𝓛)) where
         walk : ent 𝓤 (on_entry 𝓛 ended.signature (κ, tt) (q, tt) x at) (WpFn 𝓤 H C Λ (function #g) (vptr b o ∷ vint w32 n ∷ []) Post)
@@ -147,7 +147,7 @@ module _ (T : Types) where
             move ! (11 ∷ []) $ fsplit ! $ fsplit3 ! $ drop ! $ move ! (13 ∷ []) $ split ! $ move ! (2 ∷ 3 ∷ 0 ∷ []) $
             opens ! tt (S T) {h = h} b o (λ vs. spelt ! (S T) (Is (S T)) (shows 𝓛 (S T)) (LL.vals T.S T.S-laws)
             (LL.tells T.S T.S-laws) full_share h vs b o $
-            move ! (1 ∷ []) $ peeks ! (S T) (Is (S T)) (shows 𝓛 (S T)) h (state-val T h ∷ []) (λ was. move ! (1 ∷ 0 ∷ []) $
+            move ! (1 ∷ []) $ peeks ! (S T) (Is (S T)) (shows 𝓛 (S T)) h (state_val T h ∷ []) (λ was. move ! (1 ∷ 0 ∷ []) $
             -- [the struct's cell; what h owns; the open borrow; obs; auth; true; what the size owns; room for _4; …; room for _3; …; _2; …; _1; …;
             -- room for _0; …]
             assigns ! (of_opd ! (load ! (from ! (hop ! (look ! 13 refl) (stop !))) (look_raw ! 0 refl))) (from ! (stop !))
@@ -157,7 +157,7 @@ module _ (T : Types) where
             calls_at ! fm (Value 𝓛) known to
             (and_then ! (load ! (from ! (stop !)) (look ! 5 refl)) (and_then ! (load ! (from ! (stop !)) (look ! 9 refl)) (no_more !))) (λ u.
             use1 𝓛 (later (some (λ (r : T.Pair). (‵ ftrue ⊛ ‵ ((F T).own r (u ∷ []))) ⊛ raw
-            (ensured 𝓛 ended-g (clauses-g 𝓤) tt (h, (n, tt)) tt r)))) (id⊢ 𝓤 _) $ await ! tt $ pick ! (λ r.
+            (ensured 𝓛 ended_g (clauses_g 𝓤) tt (h, (n, tt)) tt r)))) (id⊢ 𝓤 _) $ await ! tt $ pick ! (λ r.
             split ! $ move ! (1 ∷ []) $ use1 𝓛 (raw (fact 𝓤 (r ≡ opened h n))) (said r) $ heard ! (r ≡ opened h n) (λ e. split ! $ drop ! $
             -- [what r owns; the struct's cell; the open borrow; obs; auth; _4; …; room for _3; …; _2; …; _1; …; room for _0; …]
             peeks ! (F T) (Is (F T)) (shows 𝓛 (F T)) r (u ∷ []) (λ is.
@@ -165,17 +165,17 @@ module _ (T : Types) where
             rewrite ! 7 (λ (w : Val). ‵ (fat full_share (F-mir T) l₃ 0 w)) (ap only (LL.tells (P T) (P-laws T) r _ is)) refl $
             assigns ! (of_opd ! (load ! (from ! (fld ! refl (stop !))) (look_in ! 7 (sub ! 1 refl (whole !)))))
             (from ! (hop ! (look ! 11 refl) (stop !)))
-            (store_raw ! 1 refl ((LL.lawful T.S T.S-laws 𝓛).typed (T.state r) _ (state-is T r u is)).0) $
+            (store_raw ! 1 refl ((LL.lawful T.S T.S-laws 𝓛).typed (T.state r) _ (state_is T r u is)).0) $
             assigns ! (of_opd ! (load ! (from ! (fld ! refl (stop !))) (look_in ! 7 (sub ! 0 refl (whole !))))) (from ! (stop !))
-            (init ! 13 refl (T.A.typed 𝓛 (T.answer r) _ (answer-is T r u is)).0) $
+            (init ! 13 refl (T.A.typed 𝓛 (T.answer r) _ (answer_is T r u is)).0) $
             -- the borrow is closed at the state that came back
-            drop ! $ owned ! (S T) (Is (S T)) (LL.makes T.S T.S-plain 𝓛) (T.state r) _ (state-is T r u is) $ move ! (1 ∷ 0 ∷ []) $
-            closes ! tt (S T) (T.state r) (state-val T (T.state r) ∷ []) b o $
+            drop ! $ owned ! (S T) (Is (S T)) (LL.makes T.S T.S-plain 𝓛) (T.state r) _ (state_is T r u is) $ move ! (1 ∷ 0 ∷ []) $
+            closes ! tt (S T) (T.state r) (state_val T (T.state r) ∷ []) b o $
             -- [obs; the borrow; its token; _4; …; _3; …; _2; …; _1; …; _0; …]
             returns ! (look ! 11 refl) $ forget ! 3 refl $ forget ! 5 refl $ forget ! 7 refl $ forget ! 9 refl $ forget ! 11 refl $
             move ! (11 ∷ 12 ∷ []) $ free1 ! $ move ! (9 ∷ 10 ∷ []) $ free1 ! $ move ! (7 ∷ 8 ∷ []) $ free1 ! $ move ! (5 ∷ 6 ∷ []) $ free1 ! $
             move ! (3 ∷ 4 ∷ []) $ free1 ! $ free0 ! $
-            keep ! (0 ∷ 1 ∷ 2 ∷ []) $ by ! (exits r e (answer-is T r u is)))))))))))))
+            keep ! (0 ∷ 1 ∷ 2 ∷ []) $ by ! (exits r e (answer_is T r u is)))))))))))))
 
     pub meets : {M : Type 1} {𝓤 : Ura M} (𝓛 : Logic 𝓤) (#g : Name) (𝓣 : Tables 𝓤 𝓛.H) → Triple 𝓤 (𝓣.C #g) (Value 𝓛)
         → Meets 𝓛 ended.signature (WpFn 𝓤 𝓛.H 𝓣.C 𝓣.Λ (function #g)) (closing 𝓛 ended (clauses 𝓤))

@@ -3,7 +3,7 @@
 --     slots, kepts, stays, all_go      the slots, what a contract keeps of each, what a proof has of each at exit (nothing, of a number) and its law
 --     numbers, final   of arguments at these slots: the numbers, and what is passed at s.        args     the arguments, of these
 --     spells, tells    the machine values as a function of the arguments, where sp is this for s, and that they can be no others
---     values, flat-values, flat-args   those values; in a row they are `Numbers.antt`'s `vals-then`, of any arguments, and of `args`
+--     values, flat-values, flat-args   those values; in a row they are `Numbers.antt`'s `vals_then`, of any arguments, and of `args`
 --     all_fit, final-is what the relations of arguments and machine values say: each width holds its number, and s's own relation
 --     to-final, from-final what is owned at the slots is owned at s alone, and the other way round, since a number owns only facts
 --     bind, bound-fits, had    of what is bound at exit for s: what this binds at the slots, that it fits, and what is had of the parameters
@@ -29,7 +29,7 @@ use denote.Exit.{Kept, yes, Last, left, Seen, see}
 use denote.Signature.{Slot, plain, types_at}
 use denote.Triple.End.{Kepts, Fins, Outs, outs, lasts_of}
 use denote.Triple.Walked.{Stay, Stays, stay_dropped, fits_of, has_of, Goes, AllGo, Goes-dropped}
-use Rattle.walk.proofs.Numbers.{Numbers, Fit, vals-then}
+use Rattle.walk.proofs.Numbers.{Numbers, Fit, vals_then}
 
 module _ {n : ℕ} (s : Slot n) where
   abbrev pub slots : List Width → List (Slot n)
@@ -80,36 +80,36 @@ module _ {n : ℕ} (s : Slot n) where
       abbrev pub values : (ws : List Width) → Denots (rows ws) → Valss (rows ws)
       values ws a = valss (rows ws) (spells ws) a
 
-      pub flat-values : (ws : List Width) (a : Denots (rows ws)) → flat (rows ws) (values ws a) ≡ vals-then ws (numbers ws a) (sp (final ws a) ++ [])
-      flat-values [] a = refl
-      flat-values (w ∷ ws) a = ap (λ (us : List Val). vint w a.0 ∷ us) (flat-values ws a.1)
+      pub flat_values : (ws : List Width) (a : Denots (rows ws)) → flat (rows ws) (values ws a) ≡ vals_then ws (numbers ws a) (sp (final ws a) ++ [])
+      flat_values [] a = refl
+      flat_values (w ∷ ws) a = ap (λ (us : List Val). vint w a.0 ∷ us) (flat_values ws a.1)
 
-      pub flat-args : (ws : List Width) (xs : Numbers ws) (y : (s.row κs).Denot)
-          → flat (rows ws) (values ws (args ws xs y)) ≡ vals-then ws xs (sp y ++ [])
-      flat-args [] xs y = refl
-      flat-args (w ∷ ws) xs y = ap (λ (us : List Val). vint w xs.0 ∷ us) (flat-args ws xs.1 y)
+      pub flat_args : (ws : List Width) (xs : Numbers ws) (y : (s.row κs).Denot)
+          → flat (rows ws) (values ws (args ws xs y)) ≡ vals_then ws xs (sp y ++ [])
+      flat_args [] xs y = refl
+      flat_args (w ∷ ws) xs y = ap (λ (us : List Val). vint w xs.0 ∷ us) (flat_args ws xs.1 y)
 
       -- ---- what is known and owned on entry
       pub all_fit : (ws : List Width) (a : Denots (rows ws)) → Are (rows ws) (Ises (rows ws)) a (values ws a) → Fit ws (numbers ws a)
       all_fit [] a are = tt
       all_fit (w ∷ ws) a are = (are.0.1, all_fit ws a.1 are.1)
 
-      pub final-is : (ws : List Width) (a : Denots (rows ws)) → Are (rows ws) (Ises (rows ws)) a (values ws a)
+      pub final_is : (ws : List Width) (a : Denots (rows ws)) → Are (rows ws) (Ises (rows ws)) a (values ws a)
           → Is (s.row κs) (final ws a) (sp (final ws a))
-      final-is [] a are = are.0
-      final-is (w ∷ ws) a are = final-is ws a.1 are.1
+      final_is [] a are = are.0
+      final_is (w ∷ ws) a are = final_is ws a.1 are.1
 
       module _ {M : Type 1} {𝓤 : Ura M} (𝓛 : Logic 𝓤) where
-        pub to-final : (ws : List Width) (a : Denots (rows ws))
+        pub to_final : (ws : List Width) (a : Denots (rows ws))
             → ent 𝓤 (sem 𝓛 (owns (rows ws) a (values ws a))) (sem 𝓛 (owns (s.row κs ∷ []) (final ws a, tt) (sp (final ws a), tt)))
-        to-final [] a = id⊢ 𝓤 _
-        to-final (w ∷ ws) a = qed 𝓛 (‵ (owns (rows (w ∷ ws)) a (values (w ∷ ws) a)) ∷ []) ∵ fsplit ! $ drop ! $ by ! (to-final ws a.1)
+        to_final [] a = id⊢ 𝓤 _
+        to_final (w ∷ ws) a = qed 𝓛 (‵ (owns (rows (w ∷ ws)) a (values (w ∷ ws) a)) ∷ []) ∵ fsplit ! $ drop ! $ by ! (to_final ws a.1)
 
-        pub from-final : (ws : List Width) (xs : Numbers ws) → Fit ws xs → (y : (s.row κs).Denot)
+        pub from_final : (ws : List Width) (xs : Numbers ws) → Fit ws xs → (y : (s.row κs).Denot)
             → ent 𝓤 (sem 𝓛 (owns (s.row κs ∷ []) (y, tt) (sp y, tt))) (sem 𝓛 (owns (rows ws) (args ws xs y) (values ws (args ws xs y))))
-        from-final [] xs fits y = id⊢ 𝓤 _
-        from-final (w ∷ ws) xs fits y =
-            via 𝓤 _ (emp∗ 𝓤 _) (mono∗ 𝓤 (uint_Makes 𝓛 w xs.0 _ (refl, fits.0)) (from-final ws xs.1 fits.1 y))
+        from_final [] xs fits y = id⊢ 𝓤 _
+        from_final (w ∷ ws) xs fits y =
+            via 𝓤 _ (emp∗ 𝓤 _) (mono∗ 𝓤 (uint_Makes 𝓛 w xs.0 _ (refl, fits.0)) (from_final ws xs.1 fits.1 y))
 
     -- ---- what is bound, had, seen and said at exit
     module _ (k : Kept) where
@@ -124,16 +124,16 @@ module _ {n : ℕ} (s : Slot n) where
       seen [] e = e.0
       seen (w ∷ ws) e = seen ws e.1
 
-      pub seen-bound : (ws : List Width) (a : Denots (rows ws)) (f : Bound (final ws a))
+      pub seen_bound : (ws : List Width) (a : Denots (rows ws)) (f : Bound (final ws a))
           → seen ws (outs κs (slots ws) (kepts k ws) a (bind ws a f)) ≡ see ((s.row κs).exit k) (final ws a) f
-      seen-bound [] a f = refl
-      seen-bound (w ∷ ws) a f = seen-bound ws a.1 f
+      seen_bound [] a f = refl
+      seen_bound (w ∷ ws) a f = seen_bound ws a.1 f
 
       module _ (h : Stay s k) where
-        pub bound-fits : (ws : List Width) (a : Denots (rows ws)) (f : Bound (final ws a)) → h.fit κs (final ws a) f
+        pub bound_fits : (ws : List Width) (a : Denots (rows ws)) (f : Bound (final ws a)) → h.fit κs (final ws a) f
             → fits_of κs (slots ws) (kepts k ws) (stays k h ws) a (bind ws a f)
-        bound-fits [] a f ok = (ok, tt)
-        bound-fits (w ∷ ws) a f ok = (tt, bound-fits ws a.1 f ok)
+        bound_fits [] a f ok = (ok, tt)
+        bound_fits (w ∷ ws) a f ok = (tt, bound_fits ws a.1 f ok)
 
         pub had : {M : Type 1} {𝓤 : Ura M} (𝓛 : Logic 𝓤) (sp : (s.row κs).Denot → List Val) (ws : List Width) (a : Denots (rows ws))
             (f : Bound (final ws a)) → ent 𝓤 (sem 𝓛 (fsep (h.has κs (final ws a) f (sp (final ws a))) ftrue))

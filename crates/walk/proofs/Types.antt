@@ -25,8 +25,8 @@ use denote.Enum.Enum.{Enum, Plainss, Few}
 use denote.Enum.Laws as EL
 
 -- a row with its one MIR type at hand, so that a struct with such a field computes to its layout
-abbrev pub at-type : RattleType → Ty → RattleType
-at-type X τ = record { Denot = X.Denot; mir = τ ∷ []; written = X.written; reaches = X.reaches; own_val = X.own; exit = X.exit; coded = X.coded }
+abbrev pub at_type : RattleType → Ty → RattleType
+at_type X τ = record { Denot = X.Denot; mir = τ ∷ []; written = X.written; reaches = X.reaches; own_val = X.own; exit = X.exit; coded = X.coded }
 
 pub record Result : Type 2 where
   pub row : RattleType
@@ -34,7 +34,7 @@ pub record Result : Type 2 where
   pub inner : RattleType
   pub into : row.Denot → inner.Denot
   pub into_one : (x y : row.Denot) → into x ≡ into y → x ≡ y
-  pub laws : LL.FLaws (record { row = at-type inner mir; Value = row.Denot; into = into; into_one = into_one })
+  pub laws : LL.FLaws (record { row = at_type inner mir; Value = row.Denot; into = into; into_one = into_one })
   pub known : (x : row.Denot) (vs : List Val) → Is inner (into x) vs → Is row x vs
   pub typed : {M : Type 1} {𝓤 : Ura M} (𝓛 : Logic 𝓤) → (x : row.Denot) (v : Val) → Is row x (v ∷ []) → Typed (mir ∷ []) (v ∷ [])
   pub makes : {M : Type 1} {𝓤 : Ura M} (𝓛 : Logic 𝓤) → Makes 𝓛 row (Is row)
@@ -79,7 +79,7 @@ pub record Types : Type 2 where
   pub Pair : Type 0
   pub answer : Pair → A.row.Denot
   pub state : Pair → S.D
-  pub one : (x y : Pair) → ◌≡◌ {A = Denots (at-type A.inner A.mir ∷ (SD.field S).row ∷ [])} (A.into (answer x), (S.to (state x), tt))
+  pub one : (x y : Pair) → ◌≡◌ {A = Denots (at_type A.inner A.mir ∷ (SD.field S).row ∷ [])} (A.into (answer x), (S.to (state x), tt))
       (A.into (answer y), (S.to (state y), tt)) → x ≡ y
 
 module _ (T : Types) where
@@ -89,14 +89,14 @@ module _ (T : Types) where
   abbrev pub R : RattleType
   R = T.A.row
 
-  abbrev answer-field : Field
-  answer-field = record { row = at-type T.A.inner T.A.mir; Value = T.A.row.Denot; into = T.A.into; into_one = T.A.into_one }
+  abbrev answer_field : Field
+  answer_field = record { row = at_type T.A.inner T.A.mir; Value = T.A.row.Denot; into = T.A.into; into_one = T.A.into_one }
 
   abbrev pub P : SD.Declared
   P = record {
     name = T.name;
     args = [];
-    parts = answer-field
+    parts = answer_field
         ∷ SD.field T.S ∷ [];
     D = T.Pair;
     to = λ x. (T.A.into (T.answer x), (T.S.to (T.state x), tt));
@@ -115,14 +115,14 @@ module _ (T : Types) where
   abbrev pub F-mir : Ty
   F-mir = layout (SD.shape P)
 
-  abbrev pub state-val : T.S.D → Val
-  state-val h = LL.val T.S T.S-laws h
+  abbrev pub state_val : T.S.D → Val
+  state_val h = LL.val T.S T.S-laws h
 
-  abbrev pub answer-val : T.Pair → Val
-  answer-val r = T.A.laws.val (T.A.into (T.answer r))
+  abbrev pub answer_val : T.Pair → Val
+  answer_val r = T.A.laws.val (T.A.into (T.answer r))
 
-  pub answer-is : (r : T.Pair) (u : Val) → Is F r (u ∷ []) → Is R (T.answer r) (answer-val r ∷ [])
-  answer-is r u is = T.A.known (T.answer r) (answer-val r ∷ []) (LL.owed P P-laws r (u ∷ []) is).0
+  pub answer_is : (r : T.Pair) (u : Val) → Is F r (u ∷ []) → Is R (T.answer r) (answer_val r ∷ [])
+  answer_is r u is = T.A.known (T.answer r) (answer_val r ∷ []) (LL.owed P P-laws r (u ∷ []) is).0
 
-  pub state-is : (r : T.Pair) (u : Val) → Is F r (u ∷ []) → Is S (T.state r) (state-val (T.state r) ∷ [])
-  state-is r u is = (LL.owed P P-laws r (u ∷ []) is).1.0
+  pub state_is : (r : T.Pair) (u : Val) → Is F r (u ∷ []) → Is S (T.state r) (state_val (T.state r) ∷ [])
+  state_is r u is = (LL.owed P P-laws r (u ∷ []) is).1.0

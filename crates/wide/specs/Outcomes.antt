@@ -1,14 +1,14 @@
--- The code's hash in progress as the definitions' one, and what its operations return. C's contracts cite `hashOf`, `wide_of` and `fed`; `opened` only
+-- The code's hash in progress as the definitions' one, and what its operations return. C's contracts cite `hash_of`, `wide_of` and `fed`; `opened` only
 -- this crate's own.
 use Rattle.std.specs.Prelude.{List, ℕ}
-use Rattle.digest.specs.Kind.{wideKind}
-use Rattle.digest.specs.State.{Hash, openAnswer, openState, feedAnswer, feedState}
+use Rattle.digest.specs.Kind.{wide_kind}
+use Rattle.digest.specs.State.{Hash, open_answer, open_state, feed_answer, feed_state}
 use Rattle.compression64.specs.Pipes.{pipe64}
 use Rattle.wide.specs.declared.Wide.{Wide}
 use Rattle.wide.specs.declared.Outcome.{Outcome}
 
-abbrev pub hashOf : Wide → Hash
-hashOf h = record { size = h.size; pipe = pipe64 h.pipe; waiting = h.waiting; total = h.total }
+abbrev pub hash_of : Wide → Hash
+hash_of h = record { size = h.size; pipe = pipe64 h.pipe; waiting = h.waiting; total = h.total }
 
 -- and back
 abbrev pub wide_of : Hash → Wide
@@ -21,7 +21,7 @@ wide_of h =
     }
 
 unfoldable pub opened : ℕ → Outcome
-opened n = record { answer = openAnswer wideKind n; state = wide_of (openState wideKind n) }
+opened n = record { answer = open_answer wide_kind n; state = wide_of (open_state wide_kind n) }
 
 unfoldable pub fed : Wide → List ℕ → Outcome
-fed h s = record { answer = feedAnswer wideKind (hashOf h) s; state = wide_of (feedState wideKind (hashOf h) s) }
+fed h s = record { answer = feed_answer wide_kind (hash_of h) s; state = wide_of (feed_state wide_kind (hash_of h) s) }

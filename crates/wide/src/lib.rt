@@ -3,11 +3,11 @@ ghost use Rattle.std.specs.Prelude.{◌≡◌, ◌++◌, ◌+◌, ◌<◌, ◌�
 ghost use Rattle.quasigroup.specs.Tables.{width64};
 ghost use Rattle.digest.specs.Blocks.{compressed, rest, filled};
 ghost use Rattle.digest.specs.Step.{step};
-ghost use Rattle.digest.specs.Kind.{wideKind};
-ghost use Rattle.digest.specs.State.{closed, finishBitsAnswer, finishBitsOut};
-ghost use Rattle.digest.specs.OneCall.{digestAnswer, digestOut};
+ghost use Rattle.digest.specs.Kind.{wide_kind};
+ghost use Rattle.digest.specs.State.{closed, finish_bits_answer, finish_bits_out};
+ghost use Rattle.digest.specs.OneCall.{digest_answer, digest_out};
 ghost use Rattle.compression64.specs.Pipes.{pipe64};
-ghost use Rattle.wide.specs.Outcomes.{hashOf, opened, fed};
+ghost use Rattle.wide.specs.Outcomes.{hash_of, opened, fed};
 
 use answer::Answer;
 use compression64::Pipe64;
@@ -78,7 +78,7 @@ fn absorb(p: Pipe64, a: &[u8], s: &[u8]) -> Absorbed
 // The pipe behind the last block: the pending bytes `w`, the byte of the one bit, zeros and the length in bits.
 fn close(p: Pipe64, w: &[u8], mark: u8, bits: u64) -> Pipe64
     requires { length w.now < 128 }
-    ensures { pipe64 result ≡ closed wideKind (pipe64 p) w.now (length w.now) mark bits }
+    ensures { pipe64 result ≡ closed wide_kind (pipe64 p) w.now (length w.now) mark bits }
 {
     let mut buf = [0u8; 256];
     let n = padding::tail(&mut buf, w, 128, mark, bits);
@@ -155,8 +155,8 @@ pub fn feed_in(hash: &mut Wide, bytes: &[u8]) -> Answer
 
 // The digest of what was fed and then the `count` highest bits of `last`, to the start of `out`. The caller's state stays as it is, and may be fed further.
 pub fn finish(hash: Wide, last: u8, count: u32, out: &mut [u8]) -> Answer
-    ensures value { result ≡ finishBitsAnswer wideKind (hashOf hash) count out.old }
-    ensures out_after { out.new ≡ finishBitsOut wideKind (hashOf hash) last count out.old }
+    ensures value { result ≡ finish_bits_answer wide_kind (hash_of hash) count out.old }
+    ensures out_after { out.new ≡ finish_bits_out wide_kind (hash_of hash) last count out.old }
 {
     let size = hash.size;
     let total = hash.total;
@@ -176,8 +176,8 @@ pub fn finish(hash: Wide, last: u8, count: u32, out: &mut [u8]) -> Answer
 
 // The digest of `message`, to the start of `out`, for this kind's sizes.
 pub fn digest(size: u32, message: &[u8], out: &mut [u8]) -> Answer
-    ensures value { result ≡ digestAnswer wideKind size message.now out.old }
-    ensures out_after { out.new ≡ digestOut wideKind size message.now out.old }
+    ensures value { result ≡ digest_answer wide_kind size message.now out.old }
+    ensures out_after { out.new ≡ digest_out wide_kind size message.now out.old }
 {
     let answer = refusal::digesting(384, 512, size as u64, message.len(), out.len());
     if !answer::is_done(answer) {

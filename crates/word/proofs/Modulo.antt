@@ -7,8 +7,8 @@ module _ (m : ℕ) where
   pub cong : (a b c d : ℕ) → a % m ≡ b % m → c % m ≡ d % m → (a + c) % m ≡ (b + d) % m
   cong a b c d p q = add-mod a c m ∙ ap₂ (λ x y. (x + y) % m) p q ∙ sym (add-mod b d m)
 
-  pub mul-mod : (t x : ℕ) → t * (x % m) % m ≡ t * x % m
-  mul-mod t x =
+  pub mul_mod : (t x : ℕ) → t * (x % m) % m ≡ t * x % m
+  mul_mod t x =
       sym (ap (λ n. t * n % m) (sym (div-add-mod' x m)) ∙ ap (λ n. n % m) (mul-add t (x / m * m) (x % m) ∙ ap (λ n. n + t * (x % m)) (sym (mul_assoc t (x / m) m)))
       ∙ mul-add-mod_self_right (t * (x / m)) m (t * (x % m)))
 

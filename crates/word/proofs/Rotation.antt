@@ -4,7 +4,7 @@ use native.Mathlib.Nat.{add-sub_cancel_left, mul-add-mod_self_right}
 use lib.Arith.{digits_lt}
 use lib.Bits.{bit_or, or_shifted}
 use Rattle.word.specs.Word.{rotl}
-use Rattle.word.proofs.Modulo.{mul-mod}
+use Rattle.word.proofs.Modulo.{mul_mod}
 use lib.Pow.{split, high, low}
 
 module _ (r k : ℕ) where
@@ -35,17 +35,17 @@ or_is r k x l =
     let e : x / 2 / 2 ^ k ≡ x / 2 ^ suc k = shr-shr x 1 k ∙ ap (λ n. x / 2 ^ n) (one-add k) in
     ap₂ bit_or (shl_is r (suc k) x) e ∙ or_shifted (x % 2 ^ suc k) r (x / 2 ^ suc k) (shr_lt r (suc k) l) ∙ sym (turned r (suc k) x)
 
-pub rotl-or : (w r x : ℕ) → r < w → x < 2 ^ w → bit_or ((x * 2 ^ r) % 2 ^ w) (x / 2 / 2 ^ (w - 1 - r)) ≡ rotl w r x
-rotl-or w r x h =
+pub rotl_or : (w r x : ℕ) → r < w → x < 2 ^ w → bit_or ((x * 2 ^ r) % 2 ^ w) (x / 2 / 2 ^ (w - 1 - r)) ≡ rotl w r x
+rotl_or w r x h =
     let e : r + suc (w - 1 - r) ≡ w = omega arith in
     subst (λ n. x < 2 ^ n → bit_or ((x * 2 ^ r) % 2 ^ n) (x / 2 / 2 ^ (w - 1 - r)) ≡ rotl n r x) e (or_is r (w - 1 - r) x)
 
-pub rotl-lt : (w r x : ℕ) → r ≤ w → x < 2 ^ w → rotl w r x < 2 ^ w
-rotl-lt w r x h = subst (λ n. x < 2 ^ n → rotl n r x < 2 ^ n) (add-sub_of_le h) (turned_lt r (w - r) x)
+pub rotl_lt : (w r x : ℕ) → r ≤ w → x < 2 ^ w → rotl w r x < 2 ^ w
+rotl_lt w r x h = subst (λ n. x < 2 ^ n → rotl n r x < 2 ^ n) (add-sub_of_le h) (turned_lt r (w - r) x)
 
 -- turned by r and then by w - r a word is as it was
-pub rotl-back : (w r x : ℕ) → r ≤ w → x < 2 ^ w → rotl w (w - r) (rotl w r x) ≡ x
-rotl-back w r x h = subst (λ n. x < 2 ^ n → rotl n (w - r) (rotl n r x) ≡ x) (add-sub_of_le h) (back r (w - r) x)
+pub rotl_back : (w r x : ℕ) → r ≤ w → x < 2 ^ w → rotl w (w - r) (rotl w r x) ≡ x
+rotl_back w r x h = subst (λ n. x < 2 ^ n → rotl n (w - r) (rotl n r x) ≡ x) (add-sub_of_le h) (back r (w - r) x)
 
 -- to the right, as code has it
 right_is : (k r x : ℕ) → x < 2 ^ (suc k + r) → bit_or ((x * 2 % 2 ^ (suc k + r)) * 2 ^ k % 2 ^ (suc k + r)) (x / 2 ^ r) ≡ rotl (suc k + r) (suc k) x
@@ -53,11 +53,11 @@ right_is k r x l =
     let m : ℕ = 2 ^ (suc k + r) in
     let e : x * 2 * 2 ^ k ≡ x * 2 ^ suc k = omega (arith, ap (λ n. x * n) (pow-suc 2 k)) in
     let f : (x * 2 % m) * 2 ^ k % m ≡ x * 2 ^ suc k % m =
-    ap (λ n. n % m) (mul_comm (x * 2 % m) (2 ^ k)) ∙ mul-mod m (2 ^ k) (x * 2) ∙ ap (λ n. n % m) (mul_comm (2 ^ k) (x * 2) ∙ e) in
+    ap (λ n. n % m) (mul_comm (x * 2 % m) (2 ^ k)) ∙ mul_mod m (2 ^ k) (x * 2) ∙ ap (λ n. n % m) (mul_comm (2 ^ k) (x * 2) ∙ e) in
     ap (λ n. bit_or n (x / 2 ^ r)) (f ∙ shl_is (suc k) r x) ∙ or_shifted (x % 2 ^ r) (suc k) (x / 2 ^ r) (shr_lt (suc k) r l) ∙ sym (turned (suc k) r x)
 
-pub rotr-or : (w r x : ℕ) → r < w → x < 2 ^ w → bit_or ((x * 2 % 2 ^ w) * 2 ^ (w - 1 - r) % 2 ^ w) (x / 2 ^ r) ≡ rotl w (w - r) x
-rotr-or w r x h =
+pub rotr_or : (w r x : ℕ) → r < w → x < 2 ^ w → bit_or ((x * 2 % 2 ^ w) * 2 ^ (w - 1 - r) % 2 ^ w) (x / 2 ^ r) ≡ rotl w (w - r) x
+rotr_or w r x h =
     let e : w - r + r ≡ w = omega arith in
     let d : suc (w - 1 - r) ≡ w - r = omega arith in
     subst (λ n. x < 2 ^ n → bit_or ((x * 2 % 2 ^ n) * 2 ^ (w - 1 - r) % 2 ^ n) (x / 2 ^ r) ≡ rotl n (w - r) x) e

@@ -4,26 +4,26 @@ use native.Mathlib.Nat.{mod-mod, add-mod-mod, mod-add-mod, add-mul-mod_self_righ
 use native.Mathlib.Decide.{dec_le}
 use lib.Pow.{split}
 use Rattle.word.specs.Word.{plus, minus, times, newton, newtons, inverse}
-use Rattle.word.proofs.Modulo.{mul-mod}
+use Rattle.word.proofs.Modulo.{mul_mod}
 use Rattle.word.proofs.Rotation.{shl_is}
-use Rattle.word.proofs.Inverse.{mod-pow-le, newtons-right, newtons-lt, one-mod, inverse-lt, inverse-right, inverse-unique}
+use Rattle.word.proofs.Inverse.{mod_pow_le, newtons_right, newtons_lt, one_mod, inverse_lt, inverse_right, inverse_unique}
 
 -- `wrapping_sub`'s result r, from what its contract says of it
-pub sub-wrapped : (w r a b : ℕ) → r < 2 ^ w → (r + b) % 2 ^ w ≡ a → r ≡ minus w a b
+pub sub_wrapped : (w r a b : ℕ) → r < 2 ^ w → (r + b) % 2 ^ w ≡ a → r ≡ minus w a b
 unfolding minus
-sub-wrapped w r a b h e =
+sub_wrapped w r a b h e =
     let m : ℕ = 2 ^ w in
     let l : b % m < m = mod-lt b (pow_pos w) in
     let s : r + b + (m - b % m) ≡ r + suc (b / m) * m = omega (arith, div-add-mod' b m) in
     sym (mod-eq_of_lt h) ∙ sym (add-mul-mod_self_right r (suc (b / m)) m) ∙ ap (λ n. n % m) (sym s) ∙ sym (mod-add-mod (r + b) m (m - b % m)) ∙ ap (λ n. (n + (m - b % m)) % m) e
 
-pub mul-fits : (k : ℕ) {a b : ℕ} → a < 2 ^ k → b < 2 ^ k → a * b < 2 ^ (k + k)
-mul-fits k {a} {b} ha hb = rw (pow-add 2 k k) (lt_of_le_of_lt (mul-le-mul_left a (le_of_lt hb)) (mul-lt-mul_of_pos_right ha (pow_pos k)))
+pub mul_fits : (k : ℕ) {a b : ℕ} → a < 2 ^ k → b < 2 ^ k → a * b < 2 ^ (k + k)
+mul_fits k {a} {b} ha hb = rw (pow-add 2 k k) (lt_of_le_of_lt (mul-le-mul_left a (le_of_lt hb)) (mul-lt-mul_of_pos_right ha (pow_pos k)))
 
 -- the product of two words of 2 k bits by halves of k bits, none of whose products is wider
-pub mul-halves : (k a b : ℕ) → times (k + k) a b ≡ plus (k + k) (a % 2 ^ k * (b % 2 ^ k)) ((a / 2 ^ k * (b % 2 ^ k) + a % 2 ^ k * (b / 2 ^ k)) % 2 ^ k * 2 ^ k)
+pub mul_halves : (k a b : ℕ) → times (k + k) a b ≡ plus (k + k) (a % 2 ^ k * (b % 2 ^ k)) ((a / 2 ^ k * (b % 2 ^ k) + a % 2 ^ k * (b / 2 ^ k)) % 2 ^ k * 2 ^ k)
 unfolding times plus
-mul-halves k a b =
+mul_halves k a b =
     let m : ℕ = 2 ^ (k + k) in
     let ah : ℕ = a / 2 ^ k in
     let al : ℕ = a % 2 ^ k in
@@ -34,26 +34,26 @@ mul-halves k a b =
     ap (λ n. n % m) (ap₂ ◌*◌ (sym (split a k)) (sym (split b k)) ∙ e) ∙ mul-add-mod_self_right (ah * bh) m (al * bl + mid * 2 ^ k)
     ∙ sym (add-mod-mod (al * bl) (mid * 2 ^ k) m) ∙ ap (λ n. (al * bl + n) % m) (shl_is k k mid)
 
-plus-low : (w j p q : ℕ) → j ≤ w → plus w p q % 2 ^ j ≡ (p + q) % 2 ^ j
+plus_low : (w j p q : ℕ) → j ≤ w → plus w p q % 2 ^ j ≡ (p + q) % 2 ^ j
 unfolding plus
-plus-low w j p q h = mod-pow-le (p + q) j w h
+plus_low w j p q h = mod_pow_le (p + q) j w h
 
 -- the same with the sum in the middle taken modulo the whole word first
 pub mul_words : (k a b : ℕ)
     → plus (k + k) (a % 2 ^ k * (b % 2 ^ k)) (plus (k + k) (a / 2 ^ k * (b % 2 ^ k)) (a % 2 ^ k * (b / 2 ^ k)) % 2 ^ k * 2 ^ k) ≡ times (k + k) a b
 mul_words k a b =
-    ap (λ n. plus (k + k) (a % 2 ^ k * (b % 2 ^ k)) (n * 2 ^ k)) (plus-low (k + k) k _ _ (let h : k ≤ k + k = omega arith in h)) ∙ sym (mul-halves k a b)
+    ap (λ n. plus (k + k) (a % 2 ^ k * (b % 2 ^ k)) (n * 2 ^ k)) (plus_low (k + k) k _ _ (let h : k ≤ k + k = omega arith in h)) ∙ sym (mul_halves k a b)
 
 -- ---- inverses
 
 -- a step as code has it
-pub newton-words : (w a x : ℕ) → times w x (minus w 2 (times w a x)) ≡ newton w a x
+pub newton_words : (w a x : ℕ) → times w x (minus w 2 (times w a x)) ≡ newton w a x
 unfolding times minus
-newton-words w a x = mul-mod (2 ^ w) x _ ∙ ap (λ n. x * (2 + (2 ^ w - n)) % 2 ^ w) (mod-mod (a * x) (2 ^ w))
+newton_words w a x = mul_mod (2 ^ w) x _ ∙ ap (λ n. x * (2 + (2 ^ w - n)) % 2 ^ w) (mod-mod (a * x) (2 ^ w))
 
 -- an odd number is its own inverse, in its three low bits
-pub odd-square : (a : ℕ) → a % 2 ≡ 1 → a * a % 2 ^ 3 ≡ 1
-odd-square a h = go (dec_le (a % 4) 2)
+pub odd_square : (a : ℕ) → a % 2 ≡ 1 → a * a % 2 ^ 3 ≡ 1
+odd_square a h = go (dec_le (a % 4) 2)
   where
     s : ℕ
     s = a / 4
@@ -69,7 +69,7 @@ odd-square a h = go (dec_le (a % 4) 2)
         ap (λ n. n % 8) (ap₂ ◌*◌ e e ∙ q) ∙ mul-add-mod_self_right (2 * (s * s) + 3 * s + 1) 8 1
 
 -- so many steps from k right bits give the inverse
-pub newtons-inverse : (w k n a x : ℕ) → 0 < w → 0 < k → a % 2 ≡ 1 → a * x % 2 ^ k ≡ 1 → w ≤ k * 2 ^ n → x < 2 ^ w → newtons w a n x ≡ inverse w a
-newtons-inverse w k n a x hw hk odd e l b =
-    inverse-unique (2 ^ w) a (newtons w a n x) (inverse w a) (newtons-right n w k w a x hk hw (le_refl w) l e ∙ one-mod w hw) (inverse-right w a hw odd)
-    (newtons-lt n w a x b) (inverse-lt w a hw)
+pub newtons_inverse : (w k n a x : ℕ) → 0 < w → 0 < k → a % 2 ≡ 1 → a * x % 2 ^ k ≡ 1 → w ≤ k * 2 ^ n → x < 2 ^ w → newtons w a n x ≡ inverse w a
+newtons_inverse w k n a x hw hk odd e l b =
+    inverse_unique (2 ^ w) a (newtons w a n x) (inverse w a) (newtons_right n w k w a x hk hw (le_refl w) l e ∙ one_mod w hw) (inverse_right w a hw odd)
+    (newtons_lt n w a x b) (inverse_lt w a hw)

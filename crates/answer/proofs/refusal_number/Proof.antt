@@ -2,14 +2,14 @@ use mathlib.Core.Path.{◌≡◌, ap, sym}
 use Prim.Native.Nat.{◌<◌}
 use lib.Dec.{lit≤}
 use Rattle.answer.specs.declared.Refusal.{Refusal}
-use Rattle.answer.specs.Number.{refusalNumber}
+use Rattle.answer.specs.Number.{refusal_number}
 use borrow.Author.Rules.{rules}
 use Rattle.answer.proofs.refusal_number.Statement.{statement}
 use Rattle.answer.proofs.refusal_number.Tie as tie
 
 -- the arm of the refusal s, where r is that one
-numbered : {r s : Refusal} → r ≡ s → refusalNumber s < 256 → (refusalNumber s ≡ refusalNumber r) × (refusalNumber s < 256)
-numbered e h = (ap refusalNumber (sym e), h)
+numbered : {r s : Refusal} → r ≡ s → refusal_number s < 256 → (refusal_number s ≡ refusal_number r) × (refusal_number s < 256)
+numbered e h = (ap refusal_number (sym e), h)
 
 pub refusal-number-spec : {M : Type 1} → statement M
 refusal-number-spec =

@@ -1,6 +1,6 @@
 use native.Mathlib.Omega.{arith}
 use borrow.Author.Rules.{rules}
-use Rattle.batch.proofs.Ended.{ends-unknown, ends-many, few_bytes, ends-other, ends-short, ends-room}
+use Rattle.batch.proofs.Ended.{ends_unknown, ends_many, few_bytes, ends_other, ends_short, ends_room}
 use Rattle.batch_check.proofs.answer_for.Statement.{statement}
 use Rattle.batch_check.proofs.answer_for.Tie as tie
 
@@ -9,7 +9,7 @@ returns c =
     let u = c.before in
     let t = u.before in
     let a = t.before.before.args in
-    ends-unknown a.size a.joined a.lengths.now a.room t.is_Known.ensures u.total-length.ensures c.if1.true
+    ends_unknown a.size a.joined a.lengths.now a.room t.is_Known.ensures u.total-length.ensures c.if1.true
 
 returns-2 : tie.Need-returns-2
 returns-2 c =
@@ -17,7 +17,7 @@ returns-2 c =
     let u = i.before in
     let t = u.before in
     let a = t.before.before.args in
-    ends-many a.size a.joined a.lengths.now a.room t.is_Known.ensures u.total-length.ensures i.if1.false c.if2.true
+    ends_many a.size a.joined a.lengths.now a.room t.is_Known.ensures u.total-length.ensures i.if1.false c.if2.true
 
 returns-3 : tie.Need-returns-3
 returns-3 c =
@@ -26,7 +26,7 @@ returns-3 c =
     let u = i.before in
     let t = u.before in
     let a = t.before.before.args in
-    ends-other a.size a.joined a.lengths.now a.room t.is_Known.ensures u.total-length.ensures i.if1.false j.if2.false
+    ends_other a.size a.joined a.lengths.now a.room t.is_Known.ensures u.total-length.ensures i.if1.false j.if2.false
     c.if3.true
 
 mul-written : tie.Need-overflow-mul-written
@@ -49,7 +49,7 @@ returns-4 c =
     let u = i.before in
     let t = u.before in
     let a = t.before.before.args in
-    ends-short a.size a.joined a.lengths.now a.room t.is_Known.ensures u.total-length.ensures i.if1.false j.if2.false
+    ends_short a.size a.joined a.lengths.now a.room t.is_Known.ensures u.total-length.ensures i.if1.false j.if2.false
     k.if3.false c.if4.true
 
 returns-5 : tie.Need-returns-5
@@ -60,7 +60,7 @@ returns-5 c =
     let u = i.before in
     let t = u.before in
     let a = t.before.before.args in
-    ends-room a.size a.joined a.lengths.now a.room t.is_Known.ensures u.total-length.ensures i.if1.false j.if2.false
+    ends_room a.size a.joined a.lengths.now a.room t.is_Known.ensures u.total-length.ensures i.if1.false j.if2.false
     k.if3.false c.if4.false
 
 pub answer-for-spec : {M : Type 1} → statement M

@@ -2,7 +2,7 @@ use Prim.Native.Nat.{◌-◌}
 use native.Mathlib.Omega.{arith}
 use borrow.Author.Rules.{rules}
 use lib.ListN.{length}
-use Rattle.batch.proofs.Sums.{Added, none-added, one-added, all-added, not-added}
+use Rattle.batch.proofs.Sums.{Added, none_added, one_added, all_added, not_added}
 use Rattle.batch_check.proofs.total_length.Statement.{statement}
 use Rattle.batch_check.proofs.total_length.Tie as tie
 
@@ -13,10 +13,10 @@ abbrev decreases-loop : tie.decreases-loop
 decreases-loop lengths sum₀ i₀ sum i = length lengths - i
 
 returns : tie.Need-returns invariant-loop decreases-loop
-returns c = not-added c.before.args.lengths.now c.if1.true
+returns c = not_added c.before.args.lengths.now c.if1.true
 
 loop-holds : tie.Need-loop-init invariant-loop decreases-loop
-loop-holds c = none-added c.before.args.lengths.now c.if1.false
+loop-holds c = none_added c.before.args.lengths.now c.if1.false
 
 cast-sum : tie.Need-overflow-cast-sum invariant-loop decreases-loop
 cast-sum c = omega (arith, c.shared-slice-known.given c.before.before.loop.i)
@@ -29,10 +29,10 @@ add-sum c =
 loop-again : tie.Need-loop-preserved invariant-loop decreases-loop
 loop-again c =
     let l = c.before.before.loop in
-    one-added l.invariant c.before.loop-test.true (omega (arith, c.shared-slice-known.given l.i))
+    one_added l.invariant c.before.loop-test.true (omega (arith, c.shared-slice-known.given l.i))
 
 returns-2 : tie.Need-returns-2 invariant-loop decreases-loop
-returns-2 c = all-added c.before.loop.invariant c.loop-test.false
+returns-2 c = all_added c.before.loop.invariant c.loop-test.false
 
 pub total-length-spec : {M : Type 1} → statement M
 total-length-spec =

@@ -2,7 +2,7 @@ use borrow.Author.Rules.{rules}
 use Rattle.quasigroup.specs.Tables.{width32}
 use Rattle.invertible.specs.RoundTrip.{Forward}
 use Rattle.digest.specs.Step.{step}
-use Rattle.pipe.proofs.Call.{by-loaded}
+use Rattle.pipe.proofs.Call.{by_loaded}
 use Rattle.compression32.specs.Pipes.{pipe32}
 use Rattle.block32.proofs.step.Statement.{statement}
 use Rattle.block32.proofs.step.Tie as tie
@@ -12,7 +12,7 @@ unfolding step
 returns c =
     let l = c.before.before.before in
     let a = l.before.before.args in
-    by-loaded width32 Forward (pipe32 a.p) a.m.now l.load.ensures c.forward.ensures
+    by_loaded width32 Forward (pipe32 a.p) a.m.now l.load.ensures c.forward.ensures
 
 pub step_spec : {M : Type 1} → statement M
 step_spec = tie.close (tie.spec

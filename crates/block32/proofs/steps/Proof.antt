@@ -6,7 +6,7 @@ use lib.ListN.{length-take, length-drop}
 use Rattle.quasigroup.specs.Tables.{width32}
 use Rattle.digest.specs.Blocks.{iterated}
 use Rattle.digest.specs.Step.{step}
-use Rattle.digest.proofs.Blocks.{iterated-turn, iterated-all}
+use Rattle.digest.proofs.Blocks.{iterated_turn, iterated_all}
 use Rattle.compression32.specs.Pipes.{pipe32}
 use Rattle.block32.proofs.steps.Statement.{statement}
 use Rattle.block32.proofs.steps.Tie as tie
@@ -24,12 +24,12 @@ loop-again : tie.Need-loop-preserved invariant-loop decreases-loop
 loop-again c =
     let t = c.before.before.before in
     let a = t.before.before.args in
-    (search rules, iterated-turn 64 (step width32) (pipe32 a.p) a.s.now t.loop.i t.loop.invariant.1 c.step.ensures)
+    (search rules, iterated_turn 64 (step width32) (pipe32 a.p) a.s.now t.loop.i t.loop.invariant.1 c.step.ensures)
 
 returns : tie.Need-returns invariant-loop decreases-loop
 returns c =
     let a = c.before.before.before.args in
-    iterated-all 64 (step width32) (pipe32 a.p) a.s.now c.before.loop.i (omega arith) c.before.loop.invariant.1
+    iterated_all 64 (step width32) (pipe32 a.p) a.s.now c.before.loop.i (omega arith) c.before.loop.invariant.1
 
 pub steps-spec : {M : Type 1} → statement M
 steps-spec =

@@ -1,4 +1,4 @@
-use Rattle.quasigroup.specs.Division.{leftDivision}
+use Rattle.quasigroup.specs.Division.{left_division}
 use Rattle.buffer.proofs.Outcome.{refused, passed}
 use borrow.Author.Rules.{rules}
 use Rattle.buffer.proofs.left_division.Statement.{statement}
@@ -8,14 +8,14 @@ returns : tie.Need-returns
 returns c =
     let t = c.before.before in
     let a = t.before.before.before.before.before.args in
-    refused leftDivision a.width a.a.now a.b.now a.out.now _ t.answer-for.ensures c.before.is-done.ensures c.if1.true
+    refused left_division a.width a.a.now a.b.now a.out.now _ t.answer-for.ensures c.before.is-done.ensures c.if1.true
 
 left-division-requires : tie.Need-left-division-requires
 left-division-requires c κs =
     let i = c.before.before in
     let t = i.before.before in
     let a = t.before.before.before.before.before.args in
-    let p = passed leftDivision a.width a.a.now a.b.now a.out.now _ t.answer-for.ensures i.before.is-done.ensures i.if1.false in
+    let p = passed left_division a.width a.a.now a.b.now a.out.now _ t.answer-for.ensures i.before.is-done.ensures i.if1.false in
     p.fits 32 c.before.if2.true
 
 returns-2 : tie.Need-returns-2
@@ -24,7 +24,7 @@ returns-2 c =
     let i = j.before in
     let t = i.before.before in
     let a = t.before.before.before.before.before.args in
-    let p = passed leftDivision a.width a.a.now a.b.now a.out.now _ t.answer-for.ensures i.before.is-done.ensures i.if1.false in
+    let p = passed left_division a.width a.a.now a.b.now a.out.now _ t.answer-for.ensures i.before.is-done.ensures i.if1.false in
     p.written 32 j.if2.true _ c.before.before.left-division.ensures
 
 left-division-requires-2 : tie.Need-left-division-requires-2
@@ -32,7 +32,7 @@ left-division-requires-2 c κs =
     let i = c.before.before in
     let t = i.before.before in
     let a = t.before.before.before.before.before.args in
-    let p = passed leftDivision a.width a.a.now a.b.now a.out.now _ t.answer-for.ensures i.before.is-done.ensures i.if1.false in
+    let p = passed left_division a.width a.a.now a.b.now a.out.now _ t.answer-for.ensures i.before.is-done.ensures i.if1.false in
     p.fits 64 (p.other c.before.if2.false)
 
 returns-3 : tie.Need-returns-3
@@ -41,7 +41,7 @@ returns-3 c =
     let i = j.before in
     let t = i.before.before in
     let a = t.before.before.before.before.before.args in
-    let p = passed leftDivision a.width a.a.now a.b.now a.out.now _ t.answer-for.ensures i.before.is-done.ensures i.if1.false in
+    let p = passed left_division a.width a.a.now a.b.now a.out.now _ t.answer-for.ensures i.before.is-done.ensures i.if1.false in
     p.written 64 (p.other j.if2.false) _ c.before.before.left-division2.ensures
 
 pub left-division-spec : {M : Type 1} → statement M

@@ -1,6 +1,6 @@
-use Rattle.quasigroup.specs.Division.{rightDivision}
+use Rattle.quasigroup.specs.Division.{right_division}
 use Rattle.quasigroup.specs.Tables.{width32}
-use Rattle.quasigroup.proofs.Quasigroup.{right-from-halves}
+use Rattle.quasigroup.proofs.Quasigroup.{right_from_halves}
 use Rattle.operands.proofs.Stored.{stored}
 use borrow.Author.Rules.{rules}
 use Rattle.buffer32.proofs.right_division.Statement.{statement}
@@ -14,8 +14,8 @@ returns c =
     let p = h.before.before.before.before.before.args in
     let a = h.before.load_vector in
     let b = s.before.load-vector2 in
-    stored rightDivision 32 p.b.now p.a.now p.out.now b.ensures a.ensures
-    (right-from-halves width32 b.result a.result h.right-half.ensures s.separated.ensures z.left-undone.ensures)
+    stored right_division 32 p.b.now p.a.now p.out.now b.ensures a.ensures
+    (right_from_halves width32 b.result a.result h.right_half_lem.ensures s.separated.ensures z.left-undone.ensures)
     c.before.before.store_vector.ensures
 
 pub right-division-spec : {M : Type 1} → statement M

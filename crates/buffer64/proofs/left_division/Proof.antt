@@ -1,6 +1,6 @@
-use Rattle.quasigroup.specs.Division.{leftDivision}
+use Rattle.quasigroup.specs.Division.{left_division}
 use Rattle.quasigroup.specs.Tables.{width64}
-use Rattle.quasigroup.proofs.Quasigroup.{left-from-halves}
+use Rattle.quasigroup.proofs.Quasigroup.{left_from_halves}
 use Rattle.operands.proofs.Stored.{stored}
 use borrow.Author.Rules.{rules}
 use Rattle.buffer64.proofs.left_division.Statement.{statement}
@@ -14,8 +14,8 @@ returns c =
     let p = h.before.before.before.before.before.args in
     let a = h.before.load_vector in
     let b = s.before.load-vector2 in
-    stored leftDivision 64 p.a.now p.b.now p.out.now a.ensures b.ensures
-    (left-from-halves width64 a.result b.result h.left-half.ensures s.separated.ensures z.right-undone.ensures)
+    stored left_division 64 p.a.now p.b.now p.out.now a.ensures b.ensures
+    (left_from_halves width64 a.result b.result h.left_half_lem.ensures s.separated.ensures z.right-undone.ensures)
     c.before.before.store_vector.ensures
 
 pub left-division-spec : {M : Type 1} → statement M

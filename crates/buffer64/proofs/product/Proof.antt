@@ -15,7 +15,7 @@ returns c =
     let u = l.before.load_vector in
     let v = r.before.load-vector2 in
     stored product 64 a.x.now a.y.now a.out.now u.ensures v.ensures
-    (from_halves width64 u.result v.result l.left-half.ensures r.right-half.ensures j.joined.ensures)
+    (from_halves width64 u.result v.result l.left_half_lem.ensures r.right_half_lem.ensures j.joined.ensures)
     c.before.before.store_vector.ensures
 
 pub product-spec : {M : Type 1} → statement M

@@ -2,7 +2,7 @@ use mathlib.Core.Logic.{⊎_elim}
 use Prim.Native.Nat.{◌-◌}
 use native.Mathlib.Omega.{arith}
 use borrow.Author.Rules.{rules}
-use Rattle.comparison.proofs.Search.{Searched, begin, found_here, goes_on, found_first, width-most, word-within}
+use Rattle.comparison.proofs.Search.{Searched, begin, found_here, goes_on, found_first, width_most, word_within}
 use Rattle.comparison.proofs.first_difference.Statement.{statement}
 use Rattle.comparison.proofs.first_difference.Tie as tie
 
@@ -19,20 +19,20 @@ mul_at : tie.Need-overflow-mul-at invariant-loop decreases-loop
 mul_at c =
     let p = c.before.before.before.before in
     let i = c.before.loop.i in
-    omega (arith, width-most p.args.width p.requires.0, word-within p.args.width p.requires.0 i (omega (arith, c.loop-test.true, c.before.loop.invariant.within)))
+    omega (arith, width_most p.args.width p.requires.0, word_within p.args.width p.requires.0 i (omega (arith, c.loop-test.true, c.before.loop.invariant.within)))
 
 add-word-at : tie.Need-overflow-add-word-at invariant-loop decreases-loop
 add-word-at c =
     let p = c.before.before.before.before in
     let i = c.before.loop.i in
-    let h = word-within p.args.width p.requires.0 i (omega (arith, c.loop-test.true, c.before.loop.invariant.within)) in
+    let h = word_within p.args.width p.requires.0 i (omega (arith, c.loop-test.true, c.before.loop.invariant.within)) in
     search (rules, p.requires.2, h)
 
 word-at-requires : tie.Need-word-at-requires invariant-loop decreases-loop
 word-at-requires c κs =
     let p = c.before.before.before.before in
     let i = c.before.loop.i in
-    let h = word-within p.args.width p.requires.0 i (omega (arith, c.loop-test.true, c.before.loop.invariant.within)) in
+    let h = word_within p.args.width p.requires.0 i (omega (arith, c.loop-test.true, c.before.loop.invariant.within)) in
     (p.requires.0, omega (arith, p.requires.2, h))
 
 word-at-requires-2 : tie.Need-word-at-requires-2 invariant-loop decreases-loop
@@ -40,7 +40,7 @@ word-at-requires-2 c κs =
     let t = c.before in
     let p = t.before.before.before.before in
     let i = t.before.loop.i in
-    let h = word-within p.args.width p.requires.0 i (omega (arith, t.loop-test.true, t.before.loop.invariant.within)) in
+    let h = word_within p.args.width p.requires.0 i (omega (arith, t.loop-test.true, t.before.loop.invariant.within)) in
     (p.requires.0, omega (arith, p.requires.1, h))
 
 add-i : tie.Need-overflow-add-i invariant-loop decreases-loop

@@ -2,8 +2,8 @@ use Prim.Native.Nat.{◌-◌}
 use native.Mathlib.Omega.{arith}
 use borrow.Author.Rules.{rules}
 use Rattle.quasigroup.proofs.Widths.{bytewise}
-use Rattle.comparison.proofs.Chunks.{Compared, begin, room, next, holds-all}
-use Rattle.comparison.proofs.Search.{width-most}
+use Rattle.comparison.proofs.Chunks.{Compared, begin, room, next, holds_all}
+use Rattle.comparison.proofs.Search.{width_most}
 use Rattle.comparison.proofs.record_holds.Statement.{statement}
 use Rattle.comparison.proofs.record_holds.Tie as tie
 
@@ -14,7 +14,7 @@ abbrev decreases-loop : tie.decreases-loop
 decreases-loop width state records from size bits₀ at₀ bits at = size - at
 
 mul-size : tie.Need-overflow-mul-size invariant-loop decreases-loop
-mul-size c = let p = c.before.before in omega (arith, width-most p.args.width p.requires.0)
+mul-size c = let p = c.before.before in omega (arith, width_most p.args.width p.requires.0)
 
 loop-holds : tie.Need-loop-init invariant-loop decreases-loop
 loop-holds c =
@@ -80,7 +80,7 @@ add_at c =
     let t = c.before.before.before.before.before in
     let p = t.before.before.before.before in
     let h = room p.args.width (bytewise p.args.width p.requires.0) t.before.loop.invariant (omega (arith, t.loop-test.true)) in
-    omega (arith, h, width-most p.args.width p.requires.0)
+    omega (arith, h, width_most p.args.width p.requires.0)
 
 loop-less : tie.Need-loop-smaller invariant-loop decreases-loop
 loop-less c = let t = c.before.before.before.before.before in omega (arith, t.loop-test.true)
@@ -102,7 +102,7 @@ returns c =
     let k = c.before.before in
     let p = k.before.before in
     let a = p.args in
-    holds-all a.width (bytewise a.width p.requires.0) a.records.now (λ i. omega (arith, k.shared-slice-known2.given i)) a.from a.state.now
+    holds_all a.width (bytewise a.width p.requires.0) a.records.now (λ i. omega (arith, k.shared-slice-known2.given i)) a.from a.state.now
     (λ i. omega (arith, k.before.shared-slice-known.given i)) p.requires.2 p.requires.1 c.before.loop.bits c.before.loop.at c.before.loop.invariant
     c.loop-test.false
 

@@ -1,6 +1,6 @@
 use borrow.Author.Rules.{rules}
 use Rattle.quasigroup.specs.Tables.{width64}
-use Rattle.digest.proofs.Step.{by-halves}
+use Rattle.digest.proofs.Step.{by_halves}
 use Rattle.compression64.proofs.forward.Statement.{statement}
 use Rattle.compression64.proofs.forward.Tie as tie
 
@@ -15,9 +15,9 @@ returns c =
     let d1 = d2.before.before.before in
     let l1 = d1.before.before in
     let a = l1.before.before.before.args in
-    by-halves width64 a.p.second a.p.first a.x a.y
-    l1.barred-left-half.ensures d1.before.right-half.ensures d1.joined.ensures
-    d2.before.before.left-half.ensures d2.before.right-half2.ensures d2.joined2.ensures
+    by_halves width64 a.p.second a.p.first a.x a.y
+    l1.barred_left_half_lem.ensures d1.before.right_half_lem.ensures d1.joined.ensures
+    d2.before.before.left_half_lem.ensures d2.before.right-half2.ensures d2.joined2.ensures
     d3.before.before.left-half2.ensures d3.before.right-half3.ensures d3.joined3.ensures
     d4.before.before.left-half3.ensures d4.before.right-half4.ensures d4.joined4.ensures
     d5.before.right-half5.ensures d5.joined5.ensures

@@ -3,8 +3,8 @@ use native.Mathlib.Omega.{arith}
 use borrow.Author.Rules.{rules}
 use Rattle.text.specs.Pushed.{Pushed}
 use Rattle.text.proofs.Pushed.{then, finished}
-use Rattle.distance_report.specs.Report.{totalLine}
-use Rattle.distance_report.proofs.Reported.{within, taken, few, reported, reported-refusal}
+use Rattle.distance_report.specs.Report.{total_line}
+use Rattle.distance_report.proofs.Reported.{within, taken, few, reported, reported_refusal}
 use Rattle.distance_report.proofs.report.Statement.{statement}
 use Rattle.distance_report.proofs.report.Tie as tie
 
@@ -36,7 +36,7 @@ returns c =
     let g = p.before.before.before.before in
     let k = g.before.before.before in
     let a = k.before.before.before.before.args in
-    let end = totalLine g.sum.given.0.0 in
+    let end = total_line g.sum.given.0.0 in
     let last : Pushed p.push-lines.new.0 p.push-lines.result end q.push-total.new.0 q.push-total.result = q.push-total.ensures.0 in
     let f = finished (then p.push-lines.ensures.0 last)
     (reported a.records.now _ _ (sym g.sum.given.1 ∙ k.flipped-bits.ensures.0) k.flipped-bits.ensures.1) in
@@ -49,7 +49,7 @@ returns-2 c =
     let k = g.before.before.before in
     let a = k.before.before.before.before.args in
     let f = finished q.push-refusal.ensures.0
-    (reported-refusal a.records.now g.r.given.0.0 g.r.given.0.1.0 (sym g.r.given.1 ∙ k.flipped-bits.ensures.0)) in
+    (reported_refusal a.records.now g.r.given.0.0 g.r.given.0.1.0 (sym g.r.given.1 ∙ k.flipped-bits.ensures.0)) in
     (f.0, (f.1, omega (arith, q.push-refusal.ensures.1)))
 
 pub report-spec : {M : Type 1} → statement M

@@ -2,14 +2,14 @@ use mathlib.Core.Path.{◌≡◌, refl}
 use Prim.Native.Nat.{◌-◌, ◌≤◌}
 use borrow.Author.Rules.{rules}
 use lib.ListN.{length}
-use Rattle.hamming.specs.Counts.{pairCount}
+use Rattle.hamming.specs.Counts.{pair_count}
 use Rattle.hamming.proofs.Counts.{Counting, begin, next, end}
 use Rattle.distances.proofs.count_records.Statement.{statement}
 use Rattle.distances.proofs.count_records.Tie as tie
 
 abbrev invariant-loop : tie.invariant-loop
 invariant-loop records counts₀ n sum₀ k₀ counts sum k =
-    (length records ≤ 65536) × (n ≡ pairCount (length records)) × (n ≤ length counts₀) × Counting records counts₀ k counts sum
+    (length records ≤ 65536) × (n ≡ pair_count (length records)) × (n ≤ length counts₀) × Counting records counts₀ k counts sum
 
 abbrev decreases-loop : tie.decreases-loop
 decreases-loop records counts₀ n sum₀ k₀ counts sum k = n - k
@@ -50,7 +50,7 @@ loop-again c =
     let a = p.before.before.before.args in
     let l = p.loop in
     let i = l.invariant in
-    (i.0, refl, i.2, next a.records.now a.counts.now l.k l.counts l.sum (search rules) c.record-distance.ensures.0 i.3)
+    (i.0, refl, i.2, next a.records.now a.counts.now l.k l.counts l.sum (search rules) c.record_distance.ensures.0 i.3)
 
 same_length : tie.Need-same-length invariant-loop decreases-loop
 same_length c = c.before.loop.invariant.3.same

@@ -1,5 +1,5 @@
 use borrow.Author.Rules.{rules}
-use Rattle.hamming.proofs.Ended.{ends-not-whole, ends-short, asked, ends-counted}
+use Rattle.hamming.proofs.Ended.{ends_not_whole, ends_short, asked, ends_counted}
 use Rattle.distances.proofs.flipped_bits.Statement.{statement}
 use Rattle.distances.proofs.flipped_bits.Tie as tie
 
@@ -7,14 +7,14 @@ returns : tie.Need-returns
 returns c =
     let t = c.before in
     let a = t.before.before.before.args in
-    ends-not-whole a.records.now a.counts.now t.whole-pairs.ensures c.if1.true
+    ends_not_whole a.records.now a.counts.now t.whole-pairs.ensures c.if1.true
 
 returns-2 : tie.Need-returns-2
 returns-2 c =
     let i = c.before in
     let t = i.before in
     let a = t.before.before.before.args in
-    ends-short a.records.now a.counts.now t.whole-pairs.ensures i.if1.false c.if2.true
+    ends_short a.records.now a.counts.now t.whole-pairs.ensures i.if1.false c.if2.true
 
 count-records-requires : tie.Need-count-records-requires
 count-records-requires c κs =
@@ -31,7 +31,7 @@ returns-3 c =
     let t = i.before in
     let a = t.before.before.before.args in
     let e = q.count-records.ensures in
-    ends-counted a.records.now a.counts.now t.whole-pairs.ensures i.if1.false j.if2.false e.0 e.1
+    ends_counted a.records.now a.counts.now t.whole-pairs.ensures i.if1.false j.if2.false e.0 e.1
 
 pub flipped-bits-spec : {M : Type 1} → statement M
 flipped-bits-spec = tie.close (tie.spec (λ c κs. search rules) returns returns-2 count-records-requires (λ c. search rules) returns-3)

@@ -1,11 +1,11 @@
 use Rattle.quasigroup.specs.Tables.{width32}
-use Rattle.halves.proofs.Halves.{undone-left}
+use Rattle.halves.proofs.Halves.{undone_left}
 use borrow.Author.Rules.{rules}
 use Rattle.division32.proofs.left_undone.Statement.{statement}
 use Rattle.division32.proofs.left_undone.Tie as tie
 
 returns : tie.Need-returns
-returns c = undone-left width32 _ c.before.left-unrotated.ensures c.left-unsummed.ensures
+returns c = undone_left width32 _ c.before.left-unrotated.ensures c.left-unsummed.ensures
 
 pub left-undone-spec : {M : Type 1} → statement M
 left-undone-spec =

@@ -1,6 +1,6 @@
 use mathlib.Core.Path.{◌∙◌}
 use Rattle.memory.proofs.Eight.{eight}
-use Rattle.halves.proofs.Balance.{unsummed, right-rows}
+use Rattle.halves.proofs.Balance.{unsummed, right_rows}
 use borrow.Author.Rules.{rules}
 use Rattle.division32.proofs.right_unsummed.Statement.{statement}
 use Rattle.division32.proofs.right_unsummed.Tie as tie
@@ -12,7 +12,7 @@ returns c =
     let second = fourth.before.before.before.before in
     let start = second.before.before.before.before in
     eight
-    second.before.before.less-three.ensures
+    second.before.before.less_three.ensures
     second.less-three2.ensures
     fourth.before.before.less-three3.ensures
     fourth.less-three4.ensures
@@ -20,7 +20,7 @@ returns c =
     sixth.less-three6.ensures
     c.before.before.less-three7.ensures
     c.less-three8.ensures
-    ∙ unsummed 32 start.before.args.s (search rules) right-rows _ start.two-fifths.ensures
+    ∙ unsummed 32 start.before.args.s (search rules) right_rows _ start.two_fifths_lem.ensures
 
 pub right-unsummed-spec : {M : Type 1} → statement M
 right-unsummed-spec =

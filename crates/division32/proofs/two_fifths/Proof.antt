@@ -4,7 +4,7 @@ use mir.Val.{Fits}
 use mir.Syntax.{w32}
 use lib.ListN.{get_or}
 use Rattle.quasigroup.specs.Product.{sum}
-use Rattle.halves.proofs.Places.{eight-summed, two-fifths-is}
+use Rattle.halves.proofs.Places.{eight_summed, two_fifths_is}
 use borrow.Author.Rules.{rules}
 use Rattle.division32.proofs.two_fifths.Statement.{statement}
 use Rattle.division32.proofs.two_fifths.Tie as tie
@@ -24,8 +24,8 @@ returns c =
       four.add323.ensures,
       four.before.add322.ensures,
       four.before.before.add32.ensures,
-    ) (eight-summed 32 s (f 7).fits (search rules)) in
-    two-fifths-is 32 s c.before.before.inverse32.ensures t c.before.multiply32.ensures c.add328.ensures
+    ) (eight_summed 32 s (f 7).fits (search rules)) in
+    two_fifths_is 32 s c.before.before.inverse32.ensures t c.before.multiply32.ensures c.add328.ensures
 
 pub two-fifths-spec : {M : Type 1} → statement M
 two-fifths-spec =

@@ -22,7 +22,7 @@ returns c =
     sixth.unrotated6.ensures
     c.before.before.unrotated7.ensures
     c.unrotated8.ensures
-    ∙ unfilled 64 0xaaaa_aaaa_aaaa_aaaa width64.leftAmounts z
+    ∙ unfilled 64 0xaaaa_aaaa_aaaa_aaaa width64.left_amounts z
 
 pub left-unrotated-spec : {M : Type 1} → statement M
 left-unrotated-spec =

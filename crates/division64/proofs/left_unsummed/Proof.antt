@@ -1,6 +1,6 @@
 use mathlib.Core.Path.{◌∙◌}
 use Rattle.memory.proofs.Eight.{eight}
-use Rattle.halves.proofs.Balance.{unsummed, left-rows}
+use Rattle.halves.proofs.Balance.{unsummed, left_rows}
 use borrow.Author.Rules.{rules}
 use Rattle.division64.proofs.left_unsummed.Statement.{statement}
 use Rattle.division64.proofs.left_unsummed.Tie as tie
@@ -20,7 +20,7 @@ returns c =
     sixth.unsummed6.ensures
     c.before.before.before.unsummed7.ensures
     c.unsummed8.ensures
-    ∙ unsummed 64 start.before.args.s (search rules) left-rows _ start.two-fifths.ensures
+    ∙ unsummed 64 start.before.args.s (search rules) left_rows _ start.two_fifths_lem.ensures
 
 pub left-unsummed-spec : {M : Type 1} → statement M
 left-unsummed-spec =

@@ -1,4 +1,4 @@
-use Rattle.halves.proofs.Places.{less-three}
+use Rattle.halves.proofs.Places.{less_three}
 use borrow.Author.Rules.{rules}
 use Rattle.division64.proofs.less_three.Statement.{statement}
 use Rattle.division64.proofs.less_three.Tie as tie
@@ -7,7 +7,7 @@ returns : tie.Need-returns
 returns c =
     let a = c.before.before.before.args in
     rw (c.subtract643.ensures, c.before.subtract642.ensures, c.before.before.subtract64.ensures)
-    (less-three 64 a.u a.t3 a.t2 (search rules) (search rules))
+    (less_three 64 a.u a.t3 a.t2 (search rules) (search rules))
 
 pub less-three-spec : {M : Type 1} → statement M
 less-three-spec =

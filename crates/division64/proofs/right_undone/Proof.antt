@@ -1,11 +1,11 @@
 use Rattle.quasigroup.specs.Tables.{width64}
-use Rattle.halves.proofs.Halves.{undone-right}
+use Rattle.halves.proofs.Halves.{undone_right}
 use borrow.Author.Rules.{rules}
 use Rattle.division64.proofs.right_undone.Statement.{statement}
 use Rattle.division64.proofs.right_undone.Tie as tie
 
 returns : tie.Need-returns
-returns c = undone-right width64 _ c.before.right-unrotated.ensures c.right-unsummed.ensures
+returns c = undone_right width64 _ c.before.right-unrotated.ensures c.right-unsummed.ensures
 
 pub right-undone-spec : {M : Type 1} → statement M
 right-undone-spec =

@@ -4,7 +4,7 @@ use mir.Val.{Fits}
 use mir.Syntax.{w64}
 use lib.ListN.{get_or}
 use Rattle.quasigroup.specs.Product.{sum}
-use Rattle.halves.proofs.Places.{eight-summed, two-fifths-is}
+use Rattle.halves.proofs.Places.{eight_summed, two_fifths_is}
 use borrow.Author.Rules.{rules}
 use Rattle.division64.proofs.two_fifths.Statement.{statement}
 use Rattle.division64.proofs.two_fifths.Tie as tie
@@ -24,8 +24,8 @@ returns c =
       four.add643.ensures,
       four.before.add642.ensures,
       four.before.before.add64.ensures,
-    ) (eight-summed 64 s (f 7).fits (search rules)) in
-    two-fifths-is 64 s c.before.before.inverse64.ensures t c.before.multiply64.ensures c.add648.ensures
+    ) (eight_summed 64 s (f 7).fits (search rules)) in
+    two_fifths_is 64 s c.before.before.inverse64.ensures t c.before.multiply64.ensures c.add648.ensures
 
 pub two-fifths-spec : {M : Type 1} → statement M
 two-fifths-spec =

@@ -2,9 +2,9 @@
 use contract.Running.{tables, tables_of}
 use denote.Triple.Spec.{triple_of}
 use denote.Triple.Table.{entered, cited}
-use Rattle.pieces.specs.Piece.{narrowOpened}
+use Rattle.pieces.specs.Piece.{narrow_opened}
 use Rattle.walk.proofs.Opening as opening
-use Rattle.edonr.proofs.HashTypes.{narrow-types}
+use Rattle.edonr.proofs.HashTypes.{narrow_types}
 use Rattle.pieces.proofs.narrow_open.Symbol as value-def
 use Rattle.pieces.proofs.narrow_open.Symbol.{name as #value}
 use Rattle.pieces.proofs.narrow_open.Met as value-thm
@@ -18,5 +18,5 @@ unfolding code.routine tables_of
 edonr-narrow-open-spec 𝓤 𝓛 𝓜 𝓡 =
     entered 𝓤 𝓛.H (triple_of 𝓛 f.signature (f.spec 𝓛 𝓜.mem 𝓡.run))
     (tables 𝓤 𝓛.H 𝓜 𝓡 code.env).C (tables 𝓤 𝓛.H 𝓜 𝓡 code.env).Λ #f code.function (code.unfolded 𝓤 𝓛.H 𝓜 𝓡)
-    (opening.meets narrow-types narrowOpened 𝓛 #value (tables_of 𝓤 𝓛.H 𝓜 (tables 𝓤 𝓛.H 𝓜 𝓡 code.env))
-    (cited 𝓤 𝓛.H (opening.Value narrow-types narrowOpened 𝓛) 𝓜 𝓡 code.env #value value-def.routine code.calls-pieces::narrow-open (value-thm.met 𝓤 𝓛 𝓜 𝓡)))
+    (opening.meets narrow_types narrow_opened 𝓛 #value (tables_of 𝓤 𝓛.H 𝓜 (tables 𝓤 𝓛.H 𝓜 𝓡 code.env))
+    (cited 𝓤 𝓛.H (opening.Value narrow_types narrow_opened 𝓛) 𝓜 𝓡 code.env #value value-def.routine code.calls-pieces::narrow-open (value-thm.met 𝓤 𝓛 𝓜 𝓡)))

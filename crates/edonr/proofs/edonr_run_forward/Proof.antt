@@ -5,7 +5,7 @@ use Rattle.edonr.proofs.edonr_run_forward.Statement.{statement}
 use Rattle.edonr.proofs.edonr_run_forward.Tie as tie
 
 returns : tie.Need-returns
-returns c = (c.number.ensures ∙ ap number_of c.before.before.before.run-forward.ensures.0, c.before.before.before.run-forward.ensures.1)
+returns c = (c.number.ensures ∙ ap number_of c.before.before.before.run_forward.ensures.0, c.before.before.before.run_forward.ensures.1)
 
 pub edonr-run-forward-spec : {M : Type 1} → statement M
 edonr-run-forward-spec = tie.close (tie.spec

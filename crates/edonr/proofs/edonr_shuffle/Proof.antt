@@ -1,6 +1,6 @@
 use mathlib.Core.Path.{ap, subst, ◌∙◌}
 use Prim.Native.Nat.{◌^◌}
-use Rattle.answer.specs.Number.{markedNumber}
+use Rattle.answer.specs.Number.{marked_number}
 use Rattle.answer.specs.Injective.{Fits}
 use borrow.Author.Rules.{rules}
 use Rattle.edonr.proofs.edonr_shuffle.Statement.{statement}
@@ -9,7 +9,7 @@ use Rattle.edonr.proofs.edonr_shuffle.Tie as tie
 returns : tie.Need-returns
 returns c =
     let e = c.before.before.before.shuffle.ensures in
-    (c.marked-number.ensures ∙ ap markedNumber e.0, (e.1.0, subst (Fits (2 ^ 63)) e.0 e.1.1))
+    (c.marked-number.ensures ∙ ap marked_number e.0, (e.1.0, subst (Fits (2 ^ 63)) e.0 e.1.1))
 
 pub edonr-shuffle-spec : {M : Type 1} → statement M
 edonr-shuffle-spec = tie.close (tie.spec

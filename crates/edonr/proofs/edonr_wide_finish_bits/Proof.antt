@@ -6,14 +6,14 @@ use mir.Syntax.{w8, w32}
 use contract.Running.{tables, tables_of}
 use denote.Triple.Spec.{triple_of}
 use denote.Triple.Table.{entered, cited}
-use Rattle.digest.specs.Kind.{wideKind}
-use Rattle.digest.specs.State.{finishBitsAnswer, finishBitsOut}
+use Rattle.digest.specs.Kind.{wide_kind}
+use Rattle.digest.specs.State.{finish_bits_answer, finish_bits_out}
 use Rattle.wide.specs.declared.Wide.{Wide}
-use Rattle.wide.specs.Outcomes.{hashOf}
+use Rattle.wide.specs.Outcomes.{hash_of}
 use Rattle.answer.specs.Number.{number_of}
 use Rattle.walk.proofs.Numbers.{Numbers}
 use Rattle.walk.proofs.Finishing as finishing
-use Rattle.edonr.proofs.HashTypes.{wide-types}
+use Rattle.edonr.proofs.HashTypes.{wide_types}
 use Rattle.pieces.proofs.wide_finish_bits.Symbol as value-def
 use Rattle.pieces.proofs.wide_finish_bits.Symbol.{name as #value}
 use Rattle.pieces.proofs.wide_finish_bits.Met as value-thm
@@ -23,16 +23,16 @@ use Rattle.edonr.proofs.edonr_wide_finish_bits.Statement as stated
 use Rattle.edonr.proofs.edonr_wide_finish_bits.Code as code
 
 abbrev answered : Wide → Numbers (w8 ∷ w32 ∷ []) → List ℕ → ℕ
-answered h n s = number_of (finishBitsAnswer wideKind (hashOf h) n.1.0 s)
+answered h n s = number_of (finish_bits_answer wide_kind (hash_of h) n.1.0 s)
 
 abbrev written : Wide → Numbers (w8 ∷ w32 ∷ []) → List ℕ → List ℕ
-written h n s = finishBitsOut wideKind (hashOf h) n.0 n.1.0 s
+written h n s = finish_bits_out wide_kind (hash_of h) n.0 n.1.0 s
 
 pub edonr-wide-finish-bits-spec : {M : Type 1} → stated.statement M
 unfolding code.routine tables_of
 edonr-wide-finish-bits-spec 𝓤 𝓛 𝓜 𝓡 =
     entered 𝓤 𝓛.H (triple_of 𝓛 f.signature (f.spec 𝓛 𝓜.mem 𝓡.run))
     (tables 𝓤 𝓛.H 𝓜 𝓡 code.env).C (tables 𝓤 𝓛.H 𝓜 𝓡 code.env).Λ #f code.function (code.unfolded 𝓤 𝓛.H 𝓜 𝓡)
-    (finishing.meets wide-types (w8 ∷ w32 ∷ []) answered written 𝓛 #value (tables_of 𝓤 𝓛.H 𝓜 (tables 𝓤 𝓛.H 𝓜 𝓡 code.env))
-    (cited 𝓤 𝓛.H (finishing.Value wide-types (w8 ∷ w32 ∷ []) answered written 𝓛) 𝓜 𝓡 code.env #value value-def.routine
+    (finishing.meets wide_types (w8 ∷ w32 ∷ []) answered written 𝓛 #value (tables_of 𝓤 𝓛.H 𝓜 (tables 𝓤 𝓛.H 𝓜 𝓡 code.env))
+    (cited 𝓤 𝓛.H (finishing.Value wide_types (w8 ∷ w32 ∷ []) answered written 𝓛) 𝓜 𝓡 code.env #value value-def.routine
     code.calls-pieces::wide-finish-bits (value-thm.met 𝓤 𝓛 𝓜 𝓡)))

@@ -2,7 +2,7 @@ use mathlib.Core.Path.{◌≡◌, subst}
 use Prim.Native.Nat.{ℕ, ◌*◌}
 use borrow.Author.Rules.{rules}
 use lib.ListN.{length}
-use Rattle.sheet.specs.Read.{placeCount}
+use Rattle.sheet.specs.Read.{place_count}
 use Rattle.sheet.specs.Sound.{SoundCommand}
 use Rattle.quasigroup.proofs.Widths.{other_width}
 use Rattle.effect.proofs.apply.Statement.{statement}
@@ -12,14 +12,14 @@ apply-requires : tie.Need-apply-requires
 apply-requires c κs =
     let p = c.before.before.before.before in
     let a = p.args in
-    subst (λ (w : ℕ). (length a.vectors.now ≡ placeCount * w) × SoundCommand w (length a.sheet.now) a.c)
+    subst (λ (w : ℕ). (length a.vectors.now ≡ place_count * w) × SoundCommand w (length a.sheet.now) a.c)
     c.before.if1.true (p.requires.1, p.requires.2)
 
 apply-requires-2 : tie.Need-apply-requires-2
 apply-requires-2 c κs =
     let p = c.before.before.before.before in
     let a = p.args in
-    subst (λ (w : ℕ). (length a.vectors.now ≡ placeCount * w) × SoundCommand w (length a.sheet.now) a.c)
+    subst (λ (w : ℕ). (length a.vectors.now ≡ place_count * w) × SoundCommand w (length a.sheet.now) a.c)
     (other_width a.width p.requires.0 c.before.if1.false) (p.requires.1, p.requires.2)
 
 returns : tie.Need-returns

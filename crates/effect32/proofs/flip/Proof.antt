@@ -1,6 +1,6 @@
 use borrow.Author.Rules.{rules}
 use Rattle.quasigroup.specs.Vector.{reversed}
-use Rattle.sheet.specs.Run.{vectorsIn}
+use Rattle.sheet.specs.Run.{vectors_in}
 use Rattle.sheet.proofs.Parts.{changed}
 use Rattle.effect32.proofs.flip.Statement.{statement}
 use Rattle.effect32.proofs.flip.Tie as tie
@@ -9,7 +9,7 @@ returns : tie.Need-returns
 returns c =
     let x = c.before.before.before.before in
     let a = x.before.before.before.before.args in
-    changed (vectorsIn 32 a.vectors.now) a.d reversed c.before.before.put.ensures c.before.before.before.reversed.ensures x.get.ensures
+    changed (vectors_in 32 a.vectors.now) a.d reversed c.before.before.put.ensures c.before.before.before.reversed.ensures x.get.ensures
 
 pub flip-spec : {M : Type 1} → statement M
 flip-spec = tie.close (tie.spec (λ c κs. search rules) (λ c κs. search rules) (λ c κs. search rules) (λ c. search rules) returns)

@@ -1,9 +1,9 @@
 use borrow.Author.Rules.{rules}
 use Rattle.quasigroup.specs.Tables.{width64}
-use Rattle.quasigroup.specs.Division.{leftDivision}
-use Rattle.quasigroup.proofs.Quasigroup.{left-from-halves}
-use Rattle.sheet.specs.Run.{vectorsIn}
-use Rattle.sheet.proofs.Parts.{changed-by}
+use Rattle.quasigroup.specs.Division.{left_division}
+use Rattle.quasigroup.proofs.Quasigroup.{left_from_halves}
+use Rattle.sheet.specs.Run.{vectors_in}
+use Rattle.sheet.proofs.Parts.{changed_by}
 use Rattle.effect64.proofs.divide_left.Statement.{statement}
 use Rattle.effect64.proofs.divide_left.Tie as tie
 
@@ -14,8 +14,8 @@ returns c =
     let y = z.before.before in
     let x = y.before.before in
     let a = x.before.before.before.args in
-    changed-by (vectorsIn 64 a.vectors.now) a.d (leftDivision width64) c.before.before.put.ensures
-    (left-from-halves width64 _ _ z.before.left-half.ensures z.separated.ensures r.right-undone.ensures) x.get.ensures y.get2.ensures
+    changed_by (vectors_in 64 a.vectors.now) a.d (left_division width64) c.before.before.put.ensures
+    (left_from_halves width64 _ _ z.before.left_half_lem.ensures z.separated.ensures r.right-undone.ensures) x.get.ensures y.get2.ensures
 
 pub divide-left-spec : {M : Type 1} → statement M
 divide-left-spec =

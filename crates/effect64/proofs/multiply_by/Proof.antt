@@ -2,8 +2,8 @@ use borrow.Author.Rules.{rules}
 use Rattle.quasigroup.specs.Tables.{width64}
 use Rattle.quasigroup.specs.Product.{product}
 use Rattle.quasigroup.proofs.Quasigroup.{from_halves}
-use Rattle.sheet.specs.Run.{vectorsIn}
-use Rattle.sheet.proofs.Parts.{changed-by}
+use Rattle.sheet.specs.Run.{vectors_in}
+use Rattle.sheet.proofs.Parts.{changed_by}
 use Rattle.effect64.proofs.multiply_by.Statement.{statement}
 use Rattle.effect64.proofs.multiply_by.Tie as tie
 
@@ -13,9 +13,9 @@ returns c =
     let y = r.before.before.before.before in
     let x = y.before.before in
     let a = x.before.before.before.args in
-    changed-by (vectorsIn 64 a.vectors.now) a.d (product width64) c.before.before.put.ensures
-    (from_halves width64 _ _ r.before.before.left-half.ensures r.before.right-half.ensures r.joined.ensures)
-    x.vector-at.ensures y.get.ensures
+    changed_by (vectors_in 64 a.vectors.now) a.d (product width64) c.before.before.put.ensures
+    (from_halves width64 _ _ r.before.before.left_half_lem.ensures r.before.right_half_lem.ensures r.joined.ensures)
+    x.vector_at_lem.ensures y.get.ensures
 
 pub multiply-by-spec : {M : Type 1} → statement M
 multiply-by-spec =

@@ -1,6 +1,6 @@
 use borrow.Author.Rules.{rules}
-use Rattle.sheet.specs.Run.{vectorsIn}
-use Rattle.sheet.proofs.Parts.{changed-both}
+use Rattle.sheet.specs.Run.{vectors_in}
+use Rattle.sheet.proofs.Parts.{changed_both}
 use Rattle.effect64.proofs.swap.Statement.{statement}
 use Rattle.effect64.proofs.swap.Tie as tie
 
@@ -10,7 +10,7 @@ returns c =
     let q = r.before.before.before.before in
     let x = q.before.before.before.before in
     let a = x.before.before.before.args in
-    changed-both (vectorsIn 64 a.vectors.now) a.d a.s q.put.ensures r.put2.ensures q.before.get2.ensures x.get.ensures
+    changed_both (vectors_in 64 a.vectors.now) a.d a.s q.put.ensures r.put2.ensures q.before.get2.ensures x.get.ensures
 
 pub swap_spec : {M : Type 1} → statement M
 swap_spec =

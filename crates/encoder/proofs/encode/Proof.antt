@@ -53,7 +53,7 @@ put-immediate-requires c κs =
     let g = c.before.before.before in
     let p = g.before.before.before.before in
     let e = rw g.c7.given.1 at p.requires in
-    (e.0.place, omega (arith, ap length c.immediate-at.ensures))
+    (e.0.place, omega (arith, ap length c.immediate_at.ensures))
 
 immediate-at-requires-2 : tie.Need-immediate-at-requires-2
 immediate-at-requires-2 c κs =
@@ -91,7 +91,7 @@ returns-7 : tie.Need-returns-7
 returns-7 c =
     let f = c.before.before in
     let i = f.before in
-    rw i.before.before.before.c7.given.1 (rw i.immediate-at.ensures at f.put-immediate.ensures)
+    rw i.before.before.before.c7.given.1 (rw i.immediate_at.ensures at f.put-immediate.ensures)
 
 returns-8 : tie.Need-returns-8
 returns-8 c =

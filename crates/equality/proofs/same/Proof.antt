@@ -2,7 +2,7 @@ use borrow.Author.Rules.{rules}
 use Prim.Native.Nat.{◌-◌}
 use native.Mathlib.Omega.{arith}
 use lib.ListN.{length}
-use Rattle.hmac.proofs.Compared.{Compared, other_length, none-compared, one-compared, all-compared}
+use Rattle.hmac.proofs.Compared.{Compared, other_length, none_compared, one_compared, all_compared}
 use Rattle.equality.proofs.same.Statement.{statement}
 use Rattle.equality.proofs.same.Tie as tie
 
@@ -16,7 +16,7 @@ returns : tie.Need-returns invariant-loop decreases-loop
 returns c = let a = c.before.args in other_length a.a.now a.b.now c.if1.true
 
 loop-holds : tie.Need-loop-init invariant-loop decreases-loop
-loop-holds c = let a = c.before.args in none-compared a.a.now a.b.now c.if1.false
+loop-holds c = let a = c.before.args in none_compared a.a.now a.b.now c.if1.false
 
 in-second : tie.Need-shared-slice-read-bits-2 invariant-loop decreases-loop
 in-second c =
@@ -26,10 +26,10 @@ in-second c =
 loop-again : tie.Need-loop-preserved invariant-loop decreases-loop
 loop-again c =
     let t = c.before.before in
-    one-compared t.before.loop.invariant t.loop-test.true
+    one_compared t.before.loop.invariant t.loop-test.true
 
 returns-2 : tie.Need-returns-2 invariant-loop decreases-loop
-returns-2 c = all-compared c.before.loop.invariant c.loop-test.false
+returns-2 c = all_compared c.before.loop.invariant c.loop-test.false
 
 pub same_spec : {M : Type 1} → statement M
 same_spec =

@@ -1,6 +1,6 @@
 use Rattle.quasigroup.specs.Tables.{width32}
-use Rattle.quasigroup.specs.Barred.{barredLeftSums}
-use Rattle.halves.proofs.Places.{eight-sums}
+use Rattle.quasigroup.specs.Barred.{barred_left_sums}
+use Rattle.halves.proofs.Places.{eight_sums}
 use Rattle.std.proofs.Common.{rules}
 use Rattle.half32.proofs.barred_left_sums.Statement.{statement}
 use Rattle.half32.proofs.barred_left_sums.Tie as tie
@@ -11,7 +11,7 @@ returns c =
     let fourth = sixth.before.before.before.before in
     let second = fourth.before.before.before.before in
     let first = second.before.before in
-    eight-sums 32 width32.leftConstant width32.leftAmounts barredLeftSums first.before.before.before.args.v
+    eight_sums 32 width32.left_constant width32.left_amounts barred_left_sums first.before.before.before.args.v
     first.rotated-sum.ensures
     second.rotated-sum2.ensures
     fourth.before.before.rotated-sum3.ensures

@@ -1,5 +1,5 @@
-use Rattle.quasigroup.specs.Tables.{width32, rightSums}
-use Rattle.halves.proofs.Places.{eight-sums}
+use Rattle.quasigroup.specs.Tables.{width32, right_sums}
+use Rattle.halves.proofs.Places.{eight_sums}
 use Rattle.std.proofs.Common.{rules}
 use Rattle.half32.proofs.right_sums.Statement.{statement}
 use Rattle.half32.proofs.right_sums.Tie as tie
@@ -10,7 +10,7 @@ returns c =
     let fourth = sixth.before.before.before.before in
     let second = fourth.before.before.before.before in
     let first = second.before.before in
-    eight-sums 32 width32.rightConstant width32.rightAmounts rightSums first.before.before.before.args.v
+    eight_sums 32 width32.right_constant width32.right_amounts right_sums first.before.before.before.args.v
     first.rotated-sum.ensures
     second.rotated-sum2.ensures
     fourth.before.before.rotated-sum3.ensures

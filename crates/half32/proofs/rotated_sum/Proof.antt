@@ -1,4 +1,4 @@
-use Rattle.halves.proofs.Places.{five-summed}
+use Rattle.halves.proofs.Places.{five_summed}
 use Rattle.std.proofs.Common.{rules}
 use Rattle.half32.proofs.rotated_sum.Statement.{statement}
 use Rattle.half32.proofs.rotated_sum.Tie as tie
@@ -6,7 +6,7 @@ use Rattle.half32.proofs.rotated_sum.Tie as tie
 returns : tie.Need-returns
 returns c =
     let a = c.before.before.before.before.before.before.args in
-    cc (five-summed 32 a.k a.t3 a.t1 (search rules))
+    cc (five_summed 32 a.k a.t3 a.t1 (search rules))
 
 pub rotated-sum-spec : {M : Type 1} → statement M
 rotated-sum-spec =

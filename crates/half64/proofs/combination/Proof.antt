@@ -1,10 +1,10 @@
-use Rattle.halves.proofs.Places.{three-combined}
+use Rattle.halves.proofs.Places.{three_combined}
 use Rattle.std.proofs.Common.{rules}
 use Rattle.half64.proofs.combination.Statement.{statement}
 use Rattle.half64.proofs.combination.Tie as tie
 
 returns : tie.Need-returns
-returns c = three-combined c.args.t2 c.args.t1 (search rules)
+returns c = three_combined c.args.t2 c.args.t1 (search rules)
 
 pub combination-spec : {M : Type 1} → statement M
 combination-spec =

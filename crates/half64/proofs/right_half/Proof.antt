@@ -1,11 +1,11 @@
 use Rattle.quasigroup.specs.Tables.{width64}
-use Rattle.halves.proofs.Halves.{right-half}
+use Rattle.halves.proofs.Halves.{right_half_lem}
 use Rattle.std.proofs.Common.{rules}
 use Rattle.half64.proofs.right_half.Statement.{statement}
 use Rattle.half64.proofs.right_half.Tie as tie
 
 returns : tie.Need-returns
-returns c = right-half width64 c.before.before.words.ensures c.before.right-sums.ensures c.right-combinations.ensures
+returns c = right_half_lem width64 c.before.before.words.ensures c.before.right-sums.ensures c.right-combinations.ensures
 
 pub right-half-spec : {M : Type 1} → statement M
 right-half-spec =

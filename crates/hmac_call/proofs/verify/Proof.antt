@@ -5,7 +5,7 @@ use native.Mathlib.Omega.{arith}
 use borrow.Author.Rules.{rules}
 use lib.ListN.{length}
 use lib.Seq.{length-take-le}
-use Rattle.digest.proofs.Answers.{known-bound}
+use Rattle.digest.proofs.Answers.{known_bound}
 use Rattle.hmac.proofs.Tag.{not_tested, tested, verified}
 use Rattle.hmac_call.proofs.verify.Statement.{statement}
 use Rattle.hmac_call.proofs.verify.Tie as tie
@@ -24,7 +24,7 @@ write-tag-requires c κs =
     let m = t.before in
     let a = m.before.before.before.before.args in
     let p = tested a.size a.key.now a.message.now a.tag.now m.keying.ensures t.is-done.ensures i.if1.false in
-    (p.0, p.1, omega (arith, known-bound a.size p.0))
+    (p.0, p.1, omega (arith, known_bound a.size p.0))
 
 array-share-prefix-expected : tie.Need-array-share-prefix-expected
 array-share-prefix-expected c =
@@ -35,7 +35,7 @@ array-share-prefix-expected c =
     let a = m.before.before.before.before.args in
     let l : length w.write-tag.new.1.1.1.0 ≡ 64 = search rules in
     let p = tested a.size a.key.now a.message.now a.tag.now m.keying.ensures t.is-done.ensures i.if1.false in
-    omega (arith, l, known-bound a.size p.0)
+    omega (arith, l, known_bound a.size p.0)
 
 slice-aggregate-same : tie.Need-slice-aggregate-same
 slice-aggregate-same c = sym (length-take-le _ _ (array-share-prefix-expected c.before))

@@ -4,9 +4,9 @@ use native.Mathlib.Omega.{arith}
 use borrow.Author.Rules.{rules}
 use lib.ListN.{length}
 use lib.Seq.{length-take-le}
-use Rattle.digest.proofs.Answers.{known-bound}
-use Rattle.hmac.proofs.KeyBlock.{block-most}
-use Rattle.hmac.proofs.Tag.{tag-written}
+use Rattle.digest.proofs.Answers.{known_bound}
+use Rattle.hmac.proofs.KeyBlock.{block_most}
+use Rattle.hmac.proofs.Tag.{tag_written}
 use Rattle.hmac_call.proofs.write_tag.Statement.{statement}
 use Rattle.hmac_call.proofs.write_tag.Tie as tie
 
@@ -16,7 +16,7 @@ array-share-prefix-inner c =
     let i = c.before in
     let b = i.before.before in
     let l : length i.padded.result ≡ 128 = search rules in
-    omega (arith, l, b.block-length.ensures, block-most b.before.before.before.before.args.size)
+    omega (arith, l, b.block_length.ensures, block_most b.before.before.before.before.args.size)
 
 slice-aggregate-digest : tie.Need-slice-aggregate-digest
 slice-aggregate-digest c = sym (length-take-le _ _ (array-share-prefix-inner c.before))
@@ -26,7 +26,7 @@ array-share-prefix-outer c =
     let o = c.before.before.before.before in
     let b = o.before.before.before in
     let l : length o.padded2.result ≡ 128 = search rules in
-    omega (arith, l, b.block-length.ensures, block-most b.before.before.before.before.args.size)
+    omega (arith, l, b.block_length.ensures, block_most b.before.before.before.before.args.size)
 
 slice-aggregate-digest-3 : tie.Need-slice-aggregate-digest-3
 slice-aggregate-digest-3 c = sym (length-take-le _ _ (array-share-prefix-outer c.before))
@@ -36,7 +36,7 @@ array-share-prefix-digest c =
     let d = c.before.before in
     let s = d.before.before.before.before.before.before.before.before.before.before in
     let l : length d.digest2.new.1.1.1.0 ≡ 64 = search rules in
-    omega (arith, l, known-bound s.args.size s.requires.0)
+    omega (arith, l, known_bound s.args.size s.requires.0)
 
 slice-aggregate-digest-4 : tie.Need-slice-aggregate-digest-4
 slice-aggregate-digest-4 c = sym (length-take-le _ _ (array-share-prefix-digest c.before))
@@ -51,7 +51,7 @@ returns c =
     let b = k.before in
     let s = b.before.before.before.before in
     let a = s.args in
-    tag-written a.size s.requires.0 a.key.now a.message.now s.requires.1 b.block-length.ensures k.key-block.result k.key-block.ensures
+    tag_written a.size s.requires.0 a.key.now a.message.now s.requires.1 b.block_length.ensures k.key-block.result k.key-block.ensures
     a.out.now s.requires.2 i.padded.ensures o.padded2.ensures d.digest2.ensures.1 e.digest5.ensures.1
 
 pub write-tag-spec : {M : Type 1} → statement M

@@ -4,7 +4,7 @@ use native.Mathlib.Omega.{arith}
 use borrow.Author.Rules.{rules}
 use lib.ListN.{length, replicate}
 use Rattle.hmac.specs.Hmac.{xored}
-use Rattle.hmac.proofs.Padded.{Padded, none-padded, one-padded, all-padded}
+use Rattle.hmac.proofs.Padded.{Padded, none_padded, one_padded, all_padded}
 use Rattle.hmac_key.proofs.padded.Statement.{statement}
 use Rattle.hmac_key.proofs.padded.Tie as tie
 
@@ -15,18 +15,18 @@ abbrev decreases-loop : tie.decreases-loop
 decreases-loop pad k r₀ i₀ r i = 128 - i
 
 loop-holds : tie.Need-loop-init invariant-loop decreases-loop
-loop-holds c = none-padded c.args.pad c.args.t1
+loop-holds c = none_padded c.args.pad c.args.t1
 
 loop-again : tie.Need-loop-preserved invariant-loop decreases-loop
 loop-again c =
     let l : length c.before.before.args.t1 ≡ 128 = search rules in
-    one-padded c.before.before.args.pad c.before.loop.invariant (omega (arith, l, c.loop-test.true))
+    one_padded c.before.before.args.pad c.before.loop.invariant (omega (arith, l, c.loop-test.true))
 
 returns : tie.Need-returns invariant-loop decreases-loop
 returns c =
     let a = c.before.before.args in
     let l : length a.t1 ≡ 128 = search rules in
-    all-padded a.pad c.before.loop.invariant (omega (arith, l, c.loop-test.false)) ∙ ap (λ (n : ℕ). xored a.t1 (replicate n a.pad)) l
+    all_padded a.pad c.before.loop.invariant (omega (arith, l, c.loop-test.false)) ∙ ap (λ (n : ℕ). xored a.t1 (replicate n a.pad)) l
 
 pub padded-spec : {M : Type 1} → statement M
 padded-spec =

@@ -5,19 +5,19 @@ use Prim.Native.Nat.{suc, ◌+◌, ◌-◌, ◌*◌, ◌≤◌}
 use native.Mathlib.Omega.{arith}
 use borrow.Author.Rules.{rules}
 use lib.ListN.{length, take}
-use Rattle.quasigroup.specs.Tables.{knownWidth}
-use Rattle.sheet.specs.Read.{placeCount}
+use Rattle.quasigroup.specs.Tables.{known_width}
+use Rattle.sheet.specs.Read.{place_count}
 use Rattle.invertible.specs.RoundTrip.{Backward}
-use Rattle.sheet.specs.Run.{steps, vectorsIn}
-use Rattle.interpreter.proofs.Loops.{backward-more}
+use Rattle.sheet.specs.Run.{steps, vectors_in}
+use Rattle.interpreter.proofs.Loops.{backward_more}
 use Rattle.interpreter.proofs.backward.Statement.{statement}
 use Rattle.interpreter.proofs.backward.Tie as tie
 
 abbrev invariant-loop : tie.invariant-loop
 invariant-loop width sheet offsets n vectors₀ done₀ vectors done =
-    (knownWidth width ≡ true) × (length vectors ≡ placeCount * width) × (length vectors ≡ length vectors₀) × (done ≤ n) × (n ≤ length offsets)
-    × (steps Backward width sheet (reverse (take (n - done) offsets)) (vectorsIn width vectors)
-    ≡ steps Backward width sheet (reverse (take n offsets)) (vectorsIn width vectors₀))
+    (known_width width ≡ true) × (length vectors ≡ place_count * width) × (length vectors ≡ length vectors₀) × (done ≤ n) × (n ≤ length offsets)
+    × (steps Backward width sheet (reverse (take (n - done) offsets)) (vectors_in width vectors)
+    ≡ steps Backward width sheet (reverse (take n offsets)) (vectors_in width vectors₀))
 
 abbrev decreases-loop : tie.decreases-loop
 decreases-loop width sheet offsets n vectors₀ done₀ vectors done = n - done
@@ -62,7 +62,7 @@ loop-again c =
     let w = a.width in
     let s = a.sheet.now in
     let l = a.offsets.now in
-    let v = vectorsIn w p.loop.vectors in
+    let v = vectors_in w p.loop.vectors in
     let last = a.n - 1 - p.loop.done in
     let b : a.n - p.loop.done ≡ suc last = omega arith in
     let d : last ≡ a.n - (p.loop.done + 1) = omega arith in
@@ -73,7 +73,7 @@ loop-again c =
       omega arith,
       i.4,
       rw (← d)
-          (backward-more w s (a.n - p.loop.done) v l last b (omega arith) i.5 x.from-u16.ensures u.undo.ensures),
+          (backward_more w s (a.n - p.loop.done) v l last b (omega arith) i.5 x.from-u16.ensures u.undo.ensures),
     )
 
 same_length : tie.Need-same-length invariant-loop decreases-loop

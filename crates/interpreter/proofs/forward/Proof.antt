@@ -4,21 +4,21 @@ use Prim.Native.Nat.{◌-◌, ◌*◌, ◌≤◌}
 use native.Mathlib.Omega.{arith}
 use borrow.Author.Rules.{rules}
 use lib.ListN.{length}
-use Rattle.quasigroup.specs.Tables.{knownWidth}
-use Rattle.sheet.specs.Read.{placeCount}
-use Rattle.sheet.specs.Sheet.{scanFrom}
+use Rattle.quasigroup.specs.Tables.{known_width}
+use Rattle.sheet.specs.Read.{place_count}
+use Rattle.sheet.specs.Sheet.{scan_from}
 use Rattle.invertible.specs.RoundTrip.{Forward}
-use Rattle.sheet.specs.Run.{steps, vectorsIn}
-use Rattle.sheet.proofs.Sound.{got-sound}
-use Rattle.interpreter.proofs.Loops.{forward-more, forward-fault, forward-end}
+use Rattle.sheet.specs.Run.{steps, vectors_in}
+use Rattle.sheet.proofs.Sound.{got_sound}
+use Rattle.interpreter.proofs.Loops.{forward_more, forward_fault, forward_end}
 use Rattle.interpreter.proofs.forward.Statement.{statement}
 use Rattle.interpreter.proofs.forward.Tie as tie
 
 abbrev invariant-loop : tie.invariant-loop
 invariant-loop width sheet vectors₀ at₀ vectors at =
-    (knownWidth width ≡ true) × (length vectors ≡ placeCount * width) × (length vectors ≡ length vectors₀) × (at ≤ length sheet)
-    × (steps Forward width sheet (scanFrom (length sheet) width sheet at).offsets (vectorsIn width vectors)
-    ≡ steps Forward width sheet (scanFrom (length sheet) width sheet 0).offsets (vectorsIn width vectors₀))
+    (known_width width ≡ true) × (length vectors ≡ place_count * width) × (length vectors ≡ length vectors₀) × (at ≤ length sheet)
+    × (steps Forward width sheet (scan_from (length sheet) width sheet at).offsets (vectors_in width vectors)
+    ≡ steps Forward width sheet (scan_from (length sheet) width sheet 0).offsets (vectors_in width vectors₀))
 
 abbrev decreases-loop : tie.decreases-loop
 decreases-loop width sheet vectors₀ at₀ vectors at = length sheet - at
@@ -38,7 +38,7 @@ apply-requires c κs =
     let p = g.before.before.before in
     let a = p.before.before.before.args in
     let e = sym g.before.before.read-command.ensures ∙ g.d.given.1 in
-    (p.loop.invariant.0, p.loop.invariant.1, (got-sound a.width a.sheet.now p.loop.at e).sound)
+    (p.loop.invariant.0, p.loop.invariant.1, (got_sound a.width a.sheet.now p.loop.at e).sound)
 
 loop-less : tie.Need-loop-smaller invariant-loop decreases-loop
 loop-less c =
@@ -46,7 +46,7 @@ loop-less c =
     let g = t.before.before.before in
     let p = g.before.before.before in
     let a = p.before.before.before.args in
-    let h = got-sound a.width a.sheet.now p.loop.at (sym g.before.before.read-command.ensures ∙ g.d.given.1) in
+    let h = got_sound a.width a.sheet.now p.loop.at (sym g.before.before.read-command.ensures ∙ g.d.given.1) in
     omega (arith, h.on, h.within)
 
 loop-again : tie.Need-loop-preserved invariant-loop decreases-loop
@@ -56,12 +56,12 @@ loop-again c =
     let p = g.before.before.before in
     let a = p.before.before.before.args in
     let e = sym g.before.before.read-command.ensures ∙ g.d.given.1 in
-    let h = got-sound a.width a.sheet.now p.loop.at e in (
+    let h = got_sound a.width a.sheet.now p.loop.at e in (
       p.loop.invariant.0,
       search rules,
       search rules,
       h.within,
-      forward-more a.width a.sheet.now p.loop.at (vectorsIn a.width p.loop.vectors) p.loop.invariant.4 g.d.given.0.0 e
+      forward_more a.width a.sheet.now p.loop.at (vectors_in a.width p.loop.vectors) p.loop.invariant.4 g.d.given.0.0 e
           t.apply.ensures,
     )
 
@@ -75,7 +75,7 @@ returns : tie.Need-returns invariant-loop decreases-loop
 returns c =
     let p = c.before.before.before in
     let a = p.before.before.before.args in
-    forward-fault a.width a.sheet.now p.loop.at (vectorsIn a.width p.loop.vectors) p.loop.invariant.4
+    forward_fault a.width a.sheet.now p.loop.at (vectors_in a.width p.loop.vectors) p.loop.invariant.4
     c.enum_told.given.0.0 (sym c.before.before.read-command.ensures ∙ c.enum_told.given.1)
 
 enum-told-2 : tie.Need-enum-told-2 invariant-loop decreases-loop
@@ -88,7 +88,7 @@ returns-2 : tie.Need-returns-2 invariant-loop decreases-loop
 returns-2 c =
     let p = c.before.before.before in
     let a = p.before.before.before.args in
-    forward-end a.width a.sheet.now p.loop.at (vectorsIn a.width p.loop.vectors) p.loop.invariant.4
+    forward_end a.width a.sheet.now p.loop.at (vectors_in a.width p.loop.vectors) p.loop.invariant.4
     (sym c.before.before.read-command.ensures ∙ c.enum-told2.given.1)
 
 pub forward-spec : {M : Type 1} → statement M

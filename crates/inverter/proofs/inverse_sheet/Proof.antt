@@ -1,5 +1,5 @@
 use borrow.Author.Rules.{rules}
-use Rattle.inverter.proofs.Called.{sheet-refused, accepted, room-refused, room-left, written}
+use Rattle.inverter.proofs.Called.{sheet_refused, accepted, room_refused, room_left, written}
 use Rattle.inverter.proofs.inverse_sheet.Statement.{statement}
 use Rattle.inverter.proofs.inverse_sheet.Tie as tie
 
@@ -7,7 +7,7 @@ returns : tie.Need-returns
 returns c =
     let t = c.before.before.before in
     let a = t.before.before.before.args in
-    sheet-refused a.width a.sheet.now a.out.now t.sheet-answer.ensures c.before.is-done.ensures c.if1.true
+    sheet_refused a.width a.sheet.now a.out.now t.sheet-answer.ensures c.before.is-done.ensures c.if1.true
 
 returns-2 : tie.Need-returns-2
 returns-2 c =
@@ -15,7 +15,7 @@ returns-2 c =
     let q = i.before.before in
     let t = q.before in
     let a = t.before.before.before.args in
-    room-refused a.width a.sheet.now a.out.now t.sheet-answer.ensures i.before.is-done.ensures i.if1.false
+    room_refused a.width a.sheet.now a.out.now t.sheet-answer.ensures i.before.is-done.ensures i.if1.false
     q.room-answer.ensures c.before.is-done2.ensures c.if2.true
 
 write-inverse-requires : tie.Need-write-inverse-requires
@@ -28,7 +28,7 @@ write-inverse-requires c κs =
     let w = a.width in
     let s = a.sheet.now in (
       accepted w s a.out.now t.sheet-answer.ensures i.before.is-done.ensures i.if1.false,
-      room-left w s a.out.now t.sheet-answer.ensures i.before.is-done.ensures i.if1.false
+      room_left w s a.out.now t.sheet-answer.ensures i.before.is-done.ensures i.if1.false
           q.room-answer.ensures j.before.is-done2.ensures j.if2.false,
     )
 

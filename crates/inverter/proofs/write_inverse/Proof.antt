@@ -4,13 +4,13 @@ use native.Mathlib.Omega.{arith}
 use borrow.Author.Rules.{rules}
 use lib.ListN.{length}
 use Rattle.sheet.specs.declared.Command.{Command}
-use Rattle.sheet.specs.Read.{placeCount}
+use Rattle.sheet.specs.Read.{place_count}
 use Rattle.sheet.specs.Sound.{SoundCommand}
-use Rattle.sheet.proofs.Sound.{got-sound}
-use Rattle.sheet.proofs.Undoing.{sound-undone}
+use Rattle.sheet.proofs.Sound.{got_sound}
+use Rattle.sheet.proofs.Undoing.{sound_undone}
 use Rattle.inverse.specs.Encoding.{Accepted, encoded}
-use Rattle.inverse.proofs.Inverts.{undoing-length}
-use Rattle.inverter.proofs.Inverting.{Inverting, started, here-size, more, ended, faulty}
+use Rattle.inverse.proofs.Inverts.{undoing_length}
+use Rattle.inverter.proofs.Inverting.{Inverting, started, here_size, more, ended, faulty}
 use Rattle.inverter.proofs.write_inverse.Statement.{statement}
 use Rattle.inverter.proofs.write_inverse.Tie as tie
 
@@ -30,7 +30,7 @@ sub-to c =
     let g = c.before.before.before in
     let p = g.before.before.before in
     let a = p.before.before.before.args in
-    let h = got-sound a.width a.sheet.now p.loop.at (sym g.before.before.read-command.ensures ∙ g.d.given.1) in
+    let h = got_sound a.width a.sheet.now p.loop.at (sym g.before.before.read-command.ensures ∙ g.d.given.1) in
     omega (arith, h.within, p.loop.invariant.1.room)
 
 -- Of the command that was read as of the one that undoes it, and of every place that lies in the output: so another command or another place is refused for
@@ -45,19 +45,19 @@ encode-requires c κs =
     let s = a.sheet.now in
     let d = g.d.given.0.0 in
     let e = sym g.before.before.read-command.ensures ∙ g.d.given.1 in
-    let h = got-sound w s p.loop.at e in
+    let h = got_sound w s p.loop.at e in
     let own = h.sound in
-    let back = subst (SoundCommand w (length s)) (sym o.opposite.ensures) (sound-undone placeCount w (length s) d.command own) in
-    let here = here-size w s p.loop.at d e h.within (omega (arith, h.on)) in
+    let back = subst (SoundCommand w (length s)) (sym o.opposite.ensures) (sound_undone place_count w (length s) d.command own) in
+    let here = here_size w s p.loop.at d e h.within (omega (arith, h.on)) in
     let size = ap (λ (x : Command). length (encoded w s x)) o.opposite.ensures in
-    (search rules, omega (arith, size, undoing-length w s d.command, h.on, h.within, p.loop.invariant.1.room))
+    (search rules, omega (arith, size, undoing_length w s d.command, h.on, h.within, p.loop.invariant.1.room))
 
 loop-less : tie.Need-loop-smaller invariant-loop decreases-loop
 loop-less c =
     let g = c.before.before.before.before.before.before.before in
     let p = g.before.before.before in
     let a = p.before.before.before.args in
-    let h = got-sound a.width a.sheet.now p.loop.at (sym g.before.before.read-command.ensures ∙ g.d.given.1) in
+    let h = got_sound a.width a.sheet.now p.loop.at (sym g.before.before.read-command.ensures ∙ g.d.given.1) in
     omega (arith, h.on, h.within)
 
 loop-again : tie.Need-loop-preserved invariant-loop decreases-loop
@@ -70,7 +70,7 @@ loop-again c =
     let w = a.width in
     let s = a.sheet.now in
     let e = sym g.before.before.read-command.ensures ∙ g.d.given.1 in
-    let h = got-sound w s p.loop.at e in
+    let h = got_sound w s p.loop.at e in
     (p.loop.invariant.0, more w s p.loop.at _ e p.loop.invariant.1 h.within (omega (arith, h.on)) o.opposite.ensures f.encode.ensures)
 
 same_length : tie.Need-same-length invariant-loop decreases-loop

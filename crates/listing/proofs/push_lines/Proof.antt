@@ -3,9 +3,9 @@ use Prim.Native.Nat.{◌-◌, ◌*◌, ◌≤◌}
 use native.Mathlib.Omega.{arith}
 use borrow.Author.Rules.{rules}
 use lib.ListN.{length}
-use Rattle.sheet.proofs.Sound.{got-sound}
+use Rattle.sheet.proofs.Sound.{got_sound}
 use Rattle.text.proofs.Partly.{Partly, none_yet}
-use Rattle.listing.proofs.Lines.{rest, lines_more, lines-fault, lines_end}
+use Rattle.listing.proofs.Lines.{rest, lines_more, lines_fault, lines_end}
 use Rattle.listing.proofs.push_lines.Statement.{statement}
 use Rattle.listing.proofs.push_lines.Tie as tie
 
@@ -37,7 +37,7 @@ loop-less c =
     let g = t.before.before.before in
     let p = g.before.before.before in
     let a = p.before.before.before.args in
-    let h = got-sound a.width a.sheet.now p.loop.at (sym g.before.before.read-command.ensures ∙ g.d.given.1) in
+    let h = got_sound a.width a.sheet.now p.loop.at (sym g.before.before.read-command.ensures ∙ g.d.given.1) in
     omega (arith, h.on, h.within)
 
 loop-again : tie.Need-loop-preserved invariant-loop decreases-loop
@@ -47,7 +47,7 @@ loop-again c =
     let p = g.before.before.before in
     let a = p.before.before.before.args in
     let e = sym g.before.before.read-command.ensures ∙ g.d.given.1 in
-    let h = got-sound a.width a.sheet.now p.loop.at e in
+    let h = got_sound a.width a.sheet.now p.loop.at e in
     let q = t.push-line.ensures in
     let m = lines_more a.width a.sheet.now p.loop.at p.loop.invariant.4 g.d.given.0.0 e q.0 in
     (p.loop.invariant.0, h.within, omega (arith, h.on, q.1), search rules, m)
@@ -62,7 +62,7 @@ returns : tie.Need-returns invariant-loop decreases-loop
 returns c =
     let p = c.before.before.before in
     let a = p.before.before.before.args in (
-      lines-fault a.width a.sheet.now p.loop.at p.loop.invariant.4 c.enum_told.given.0.0
+      lines_fault a.width a.sheet.now p.loop.at p.loop.invariant.4 c.enum_told.given.0.0
           (sym c.before.before.read-command.ensures ∙ c.enum_told.given.1),
       omega arith,
     )

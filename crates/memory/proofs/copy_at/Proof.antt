@@ -4,7 +4,7 @@ use borrow.Author.Rules.{rules}
 use native.Mathlib.Omega.{arith}
 use lib.ListN.{length}
 use lib.Seq.{paste, paste-zero}
-use Rattle.memory.proofs.Copy.{copied-length, copied_more, copied_all}
+use Rattle.memory.proofs.Copy.{copied_length, copied_more, copied_all}
 use Rattle.memory.proofs.copy_at.Statement.{statement}
 use Rattle.memory.proofs.copy_at.Tie as tie
 use Rattle.memory.proofs.copy_at.Reads as reads
@@ -18,7 +18,7 @@ decreases-loop dst₀ at src i₀ dst i = length src - i
 
 module _ (c : lts.At-loop reads.Pre reads.Post invariant-loop decreases-loop) where
   long : length c.loop.dst ≡ length c.before.args.dst.now
-  long = copied-length c.before.args.dst.now c.before.args.at c.before.args.src.now c.loop.invariant.1 c.loop.dst c.loop.i c.loop.invariant.2 c.loop.invariant.0
+  long = copied_length c.before.args.dst.now c.before.args.at c.before.args.src.now c.loop.invariant.1 c.loop.dst c.loop.i c.loop.invariant.2 c.loop.invariant.0
 
 loop-holds : tie.Need-loop-init invariant-loop decreases-loop
 loop-holds c = (search rules, search rules, paste-zero c.args.dst.now c.args.at c.args.src.now)

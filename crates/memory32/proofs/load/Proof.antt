@@ -1,5 +1,5 @@
 use borrow.Author.Rules.{rules}
-use Rattle.memory.proofs.Bytes.{byte-read, loaded}
+use Rattle.memory.proofs.Bytes.{byte_read, loaded}
 use Rattle.memory32.proofs.load.Statement.{statement}
 use Rattle.memory32.proofs.load.Tie as tie
 
@@ -10,7 +10,7 @@ returns c =
     let p = q.before.before in
     let a = p.before.before.before.args in
     loaded a.s.now 4 a.at (search rules)
-    (byte-read p.byte.ensures, (byte-read q.byte2.ensures, (byte-read r.byte3.ensures, (byte-read c.byte4.ensures, tt))))
+    (byte_read p.byte.ensures, (byte_read q.byte2.ensures, (byte_read r.byte3.ensures, (byte_read c.byte4.ensures, tt))))
     (search rules)
 
 pub load_spec : {M : Type 1} → statement M

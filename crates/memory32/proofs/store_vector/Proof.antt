@@ -1,5 +1,5 @@
 use borrow.Author.Rules.{rules}
-use Rattle.memory.proofs.Bytes.{eight-stores}
+use Rattle.memory.proofs.Bytes.{eight_stores}
 use Rattle.memory32.proofs.store_vector.Statement.{statement}
 use Rattle.memory32.proofs.store_vector.Tie as tie
 
@@ -14,7 +14,7 @@ returns c =
     let one = two.before.before.before.before in
     let none = one.before.before.before.before in
     let start = none.before in
-    eight-stores 4 start.args.out.now start.args.t2 (search rules) (search rules)
+    eight_stores 4 start.args.out.now start.args.t2 (search rules) (search rules)
     one.before.before.store.ensures two.before.before.store2.ensures three.before.before.store3.ensures
     four.before.before.store4.ensures five.before.before.store5.ensures six.before.before.store6.ensures
     seven.before.before.store7.ensures c.before.before.store8.ensures

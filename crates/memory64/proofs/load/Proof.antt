@@ -1,5 +1,5 @@
 use borrow.Author.Rules.{rules}
-use Rattle.memory.proofs.Bytes.{byte-read, loaded}
+use Rattle.memory.proofs.Bytes.{byte_read, loaded}
 use Rattle.memory64.proofs.load.Statement.{statement}
 use Rattle.memory64.proofs.load.Tie as tie
 
@@ -14,21 +14,21 @@ returns c =
     let p = q.before.before in
     let a = p.before.before.before.args in
     loaded a.s.now 8 a.at (search rules) (
-      byte-read p.byte.ensures,
+      byte_read p.byte.ensures,
       (
-        byte-read q.byte2.ensures,
+        byte_read q.byte2.ensures,
         (
-          byte-read r.byte3.ensures,
+          byte_read r.byte3.ensures,
           (
-            byte-read t.byte4.ensures,
+            byte_read t.byte4.ensures,
             (
-              byte-read u.byte5.ensures,
+              byte_read u.byte5.ensures,
               (
-                byte-read v.byte6.ensures,
+                byte_read v.byte6.ensures,
                 (
-                  byte-read w.byte7.ensures,
+                  byte_read w.byte7.ensures,
                   (
-                    byte-read c.byte8.ensures,
+                    byte_read c.byte8.ensures,
                     tt,
                   ),
                 ),

@@ -1,8 +1,8 @@
 use native.Mathlib.Omega.{arith}
 use borrow.Author.Rules.{rules}
-use Rattle.digest.specs.Kind.{narrowKind}
-use Rattle.digest.proofs.Answers.{narrow-sized}
-use Rattle.digest.proofs.Cases.{Digesting, digest-refused, digest-goes}
+use Rattle.digest.specs.Kind.{narrow_kind}
+use Rattle.digest.proofs.Answers.{narrow_sized}
+use Rattle.digest.proofs.Cases.{Digesting, digest_refused, digest_goes}
 use Rattle.narrow.proofs.digest.Statement.{statement}
 use Rattle.narrow.proofs.digest.Tie as tie
 
@@ -10,11 +10,11 @@ returns : tie.Need-returns
 returns c =
     let d = c.before.before in
     let a = d.before.before.before.args in
-    digest-refused narrow-sized a.size a.message.now a.out.now d.digesting.ensures c.before.is-done.ensures c.if1.true
+    digest_refused narrow_sized a.size a.message.now a.out.now d.digesting.ensures c.before.is-done.ensures c.if1.true
 
 goes : (c : tie.Else1)
-    → let d = c.before.before in let a = d.before.before.before.args in Digesting narrowKind a.size a.message.now a.out.now
-goes c = digest-goes narrow-sized _ _ _ c.before.before.digesting.ensures c.before.is-done.ensures c.if1.false
+    → let d = c.before.before in let a = d.before.before.before.args in Digesting narrow_kind a.size a.message.now a.out.now
+goes c = digest_goes narrow_sized _ _ _ c.before.before.digesting.ensures c.before.is-done.ensures c.if1.false
 
 mul-close : tie.Need-overflow-mul-close
 mul-close c = omega (arith, (goes c.before.before.before).fits.bits)

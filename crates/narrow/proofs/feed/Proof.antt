@@ -1,21 +1,21 @@
 use native.Mathlib.Omega.{arith}
 use borrow.Author.Rules.{rules}
-use Rattle.digest.specs.Kind.{narrowKind}
-use Rattle.digest.proofs.Answers.{narrow-sized}
-use Rattle.digest.proofs.Cases.{Feeding, feed-refused, feed-goes}
-use Rattle.narrow.specs.Outcomes.{hashOf}
-use Rattle.narrow.proofs.Whole.{whole-fed}
+use Rattle.digest.specs.Kind.{narrow_kind}
+use Rattle.digest.proofs.Answers.{narrow_sized}
+use Rattle.digest.proofs.Cases.{Feeding, feed_refused, feed_goes}
+use Rattle.narrow.specs.Outcomes.{hash_of}
+use Rattle.narrow.proofs.Whole.{whole_fed}
 use Rattle.narrow.proofs.feed.Statement.{statement}
 use Rattle.narrow.proofs.feed.Tie as tie
 
 returns : tie.Need-returns
 returns c =
     let a = c.before.before.before.before.args in
-    whole-fed a.hash a.bytes.now
-    (feed-refused narrow-sized (hashOf a.hash) a.bytes.now c.before.before.feeding.ensures c.before.is-done.ensures c.if1.true)
+    whole_fed a.hash a.bytes.now
+    (feed_refused narrow_sized (hash_of a.hash) a.bytes.now c.before.before.feeding.ensures c.before.is-done.ensures c.if1.true)
 
-goes : (c : tie.Else1) → let a = c.before.before.before.before.args in Feeding narrowKind (hashOf a.hash) a.bytes.now
-goes c = feed-goes narrow-sized _ _ c.before.before.feeding.ensures c.before.is-done.ensures (search rules) c.if1.false
+goes : (c : tie.Else1) → let a = c.before.before.before.before.args in Feeding narrow_kind (hash_of a.hash) a.bytes.now
+goes c = feed_goes narrow_sized _ _ c.before.before.feeding.ensures c.before.is-done.ensures (search rules) c.if1.false
 
 array-share-prefix-w : tie.Need-array-share-prefix-w
 array-share-prefix-w c = (goes c.before.before).waits.stands
@@ -34,7 +34,7 @@ returns-2 c =
     let q = c.before.before in
     let t = q.before.before.before.before in
     let a = t.before.before.before.before.args in
-    whole-fed a.hash a.bytes.now (t.before.before.feeding.ensures, (goes t).fed q.absorb.ensures)
+    whole_fed a.hash a.bytes.now (t.before.before.feeding.ensures, (goes t).fed q.absorb.ensures)
 
 pub feed-spec : {M : Type 1} → statement M
 feed-spec =

@@ -1,20 +1,20 @@
 use native.Mathlib.Omega.{arith}
 use borrow.Author.Rules.{rules}
-use Rattle.digest.specs.Kind.{narrowKind}
-use Rattle.digest.proofs.Answers.{narrow-sized}
-use Rattle.digest.proofs.Cases.{Finishing, finish-refused, finish-goes}
-use Rattle.narrow.specs.Outcomes.{hashOf}
+use Rattle.digest.specs.Kind.{narrow_kind}
+use Rattle.digest.proofs.Answers.{narrow_sized}
+use Rattle.digest.proofs.Cases.{Finishing, finish_refused, finish_goes}
+use Rattle.narrow.specs.Outcomes.{hash_of}
 use Rattle.narrow.proofs.finish.Statement.{statement}
 use Rattle.narrow.proofs.finish.Tie as tie
 
 returns : tie.Need-returns
 returns c =
     let a = c.before.before.before.before.args in
-    finish-refused narrow-sized (hashOf a.hash) a.last a.count a.out.now
+    finish_refused narrow_sized (hash_of a.hash) a.last a.count a.out.now
     c.before.before.finishing.ensures c.before.is-done.ensures c.if1.true
 
-goes : (c : tie.Else1) → let a = c.before.before.before.before.args in Finishing narrowKind (hashOf a.hash) a.last a.count a.out.now
-goes c = finish-goes narrow-sized _ _ _ _ c.before.before.finishing.ensures c.before.is-done.ensures (search rules) c.if1.false
+goes : (c : tie.Else1) → let a = c.before.before.before.before.args in Finishing narrow_kind (hash_of a.hash) a.last a.count a.out.now
+goes c = finish_goes narrow_sized _ _ _ _ c.before.before.finishing.ensures c.before.is-done.ensures (search rules) c.if1.false
 
 marked-requires : tie.Need-marked-requires
 marked-requires c κs = omega (arith, (goes c.before.before).few)

@@ -2,11 +2,11 @@ use mathlib.Core.Path.{ap, ◌∙◌}
 use borrow.Author.Rules.{rules}
 use Rattle.answer.specs.Number.{number_of}
 use Rattle.answer.specs.Refuse.{outcome}
-use Rattle.answer.proofs.Refuse.{outcome-again}
-use Rattle.digest.specs.Kind.{narrowKind}
-use Rattle.digest.specs.State.{openAnswer, zeros, opened as started}
+use Rattle.answer.proofs.Refuse.{outcome_again}
+use Rattle.digest.specs.Kind.{narrow_kind}
+use Rattle.digest.specs.State.{open_answer, zeros, opened as started}
 use Rattle.narrow.specs.declared.Outcome.{Outcome}
-use Rattle.narrow.specs.Outcomes.{narrowOf, opened}
+use Rattle.narrow.specs.Outcomes.{narrow_of, opened}
 use Rattle.pieces.proofs.narrow_open.Statement.{statement}
 use Rattle.pieces.proofs.narrow_open.Tie as tie
 
@@ -17,7 +17,7 @@ returns c =
     let o = c.before.before.before.«open».ensures in
     let n = c.before.number.ensures ∙ ap (λ (o : Outcome). number_of o.answer) o in
     let s = c.narrow-outcome.ensures ∙ ap (λ (o : Outcome). outcome o.answer o.state a.hash) o
-    ∙ outcome-again (openAnswer narrowKind a.size) narrowOf (started narrowKind a.size) (zeros narrowKind) a.hash in
+    ∙ outcome_again (open_answer narrow_kind a.size) narrow_of (started narrow_kind a.size) (zeros narrow_kind) a.hash in
     λ i. record { number = n i; state = s i }
 
 pub narrow-open-spec : {M : Type 1} → statement M

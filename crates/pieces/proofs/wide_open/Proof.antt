@@ -2,9 +2,9 @@ use mathlib.Core.Path.{ap, ◌∙◌}
 use borrow.Author.Rules.{rules}
 use Rattle.answer.specs.Number.{number_of}
 use Rattle.answer.specs.Refuse.{outcome}
-use Rattle.answer.proofs.Refuse.{outcome-again}
-use Rattle.digest.specs.Kind.{wideKind}
-use Rattle.digest.specs.State.{openAnswer, zeros, opened as started}
+use Rattle.answer.proofs.Refuse.{outcome_again}
+use Rattle.digest.specs.Kind.{wide_kind}
+use Rattle.digest.specs.State.{open_answer, zeros, opened as started}
 use Rattle.wide.specs.declared.Outcome.{Outcome}
 use Rattle.wide.specs.Outcomes.{wide_of, opened}
 use Rattle.pieces.proofs.wide_open.Statement.{statement}
@@ -17,7 +17,7 @@ returns c =
     let o = c.before.before.before.«open».ensures in
     let n = c.before.number.ensures ∙ ap (λ (o : Outcome). number_of o.answer) o in
     let s = c.wide-outcome.ensures ∙ ap (λ (o : Outcome). outcome o.answer o.state a.hash) o
-    ∙ outcome-again (openAnswer wideKind a.size) wide_of (started wideKind a.size) (zeros wideKind) a.hash in
+    ∙ outcome_again (open_answer wide_kind a.size) wide_of (started wide_kind a.size) (zeros wide_kind) a.hash in
     λ i. record { number = n i; state = s i }
 
 pub wide-open-spec : {M : Type 1} → statement M

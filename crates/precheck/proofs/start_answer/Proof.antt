@@ -7,9 +7,9 @@ use Rattle.answer.specs.declared.Answer.TheVariants.{Done}
 use Rattle.answer.specs.declared.Refusal.TheVariants.{Start}
 use Rattle.answer.specs.Refuse.{unless}
 use Rattle.answer.proofs.Tests.{goes_on, stops}
-use Rattle.sheet.specs.Work.{foundAnswer}
-use Rattle.sheet.specs.Start.{isStart}
-use Rattle.precheck.proofs.Ordered.{sheet-refused, start-refused, neither-refused}
+use Rattle.sheet.specs.Work.{found_answer}
+use Rattle.sheet.specs.Start.{is_start}
+use Rattle.precheck.proofs.Ordered.{sheet_refused, start_refused, neither_refused}
 use Rattle.precheck.proofs.start_answer.Statement.{statement}
 use Rattle.precheck.proofs.start_answer.Tie as tie
 
@@ -18,7 +18,7 @@ returns c =
     let g = c.before.before in
     let k = g.before.before.before in
     let a = k.before.before.before.args in
-    sheet-refused (g.before.sheet-answer.ensures ∙ ap foundAnswer k.check-start.ensures.0) (isStart a.width a.sheet.now a.start)
+    sheet_refused (g.before.sheet-answer.ensures ∙ ap found_answer k.check-start.ensures.0) (is_start a.width a.sheet.now a.start)
     (g.offset-answer.ensures ∙ ap (λ (b : Bool). unless (b || eqb a.start (length a.sheet.now)) Start (Done 0)) k.check-start.ensures.1.0)
     (stops c.before.is-done.ensures c.if1.true)
 
@@ -28,7 +28,7 @@ returns-2 c =
     let g = i.before.before in
     let k = g.before.before.before in
     let a = k.before.before.before.args in
-    start-refused (g.before.sheet-answer.ensures ∙ ap foundAnswer k.check-start.ensures.0) (isStart a.width a.sheet.now a.start)
+    start_refused (g.before.sheet-answer.ensures ∙ ap found_answer k.check-start.ensures.0) (is_start a.width a.sheet.now a.start)
     (g.offset-answer.ensures ∙ ap (λ (b : Bool). unless (b || eqb a.start (length a.sheet.now)) Start (Done 0)) k.check-start.ensures.1.0)
     (goes_on i.before.is-done.ensures i.if1.false) (stops c.before.is-done2.ensures c.if2.true)
 
@@ -38,7 +38,7 @@ returns-3 c =
     let g = i.before.before in
     let k = g.before.before.before in
     let a = k.before.before.before.args in
-    neither-refused (g.before.sheet-answer.ensures ∙ ap foundAnswer k.check-start.ensures.0) (isStart a.width a.sheet.now a.start)
+    neither_refused (g.before.sheet-answer.ensures ∙ ap found_answer k.check-start.ensures.0) (is_start a.width a.sheet.now a.start)
     (g.offset-answer.ensures ∙ ap (λ (b : Bool). unless (b || eqb a.start (length a.sheet.now)) Start (Done 0)) k.check-start.ensures.1.0)
     (goes_on i.before.is-done.ensures i.if1.false) (goes_on c.before.is-done2.ensures c.if2.false)
 

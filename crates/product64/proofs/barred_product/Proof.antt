@@ -1,11 +1,11 @@
 use Rattle.quasigroup.specs.Tables.{width64}
-use Rattle.quasigroup.proofs.Barred.{barred-from-halves}
+use Rattle.quasigroup.proofs.Barred.{barred_from_halves}
 use borrow.Author.Rules.{rules}
 use Rattle.product64.proofs.barred_product.Statement.{statement}
 use Rattle.product64.proofs.barred_product.Tie as tie
 
 returns : tie.Need-returns
-returns c = barred-from-halves width64 _ _ c.before.before.barred-left-half.ensures c.before.right-half.ensures c.joined.ensures
+returns c = barred_from_halves width64 _ _ c.before.before.barred_left_half_lem.ensures c.before.right_half_lem.ensures c.joined.ensures
 
 pub barred-product-spec : {M : Type 1} → statement M
 barred-product-spec =

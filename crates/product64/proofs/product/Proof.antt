@@ -5,7 +5,7 @@ use Rattle.product64.proofs.product.Statement.{statement}
 use Rattle.product64.proofs.product.Tie as tie
 
 returns : tie.Need-returns
-returns c = from_halves width64 _ _ c.before.before.left-half.ensures c.before.right-half.ensures c.joined.ensures
+returns c = from_halves width64 _ _ c.before.before.left_half_lem.ensures c.before.right_half_lem.ensures c.joined.ensures
 
 pub product-spec : {M : Type 1} → statement M
 product-spec =

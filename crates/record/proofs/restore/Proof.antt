@@ -4,8 +4,8 @@ use Prim.Native.Nat.{ℕ, ◌-◌}
 use borrow.Author.Rules.{rules}
 use native.Mathlib.Omega.{arith}
 use Rattle.shuffle.specs.Transposed.{transposed}
-use Rattle.record.proofs.Moved.{Moved, plain, across, none-moved, some_words, tile-inside, tile-ends}
-use Rattle.record.proofs.Moved.{rows_inside, row_inside, restore-more, restore-all}
+use Rattle.record.proofs.Moved.{Moved, plain, across, none_moved, some_words, tile_inside, tile_ends}
+use Rattle.record.proofs.Moved.{rows_inside, row_inside, restore_more, restore_all}
 use Rattle.record.proofs.restore.Statement.{statement}
 use Rattle.record.proofs.restore.Tie as tie
 
@@ -16,7 +16,7 @@ abbrev decreases-loop : tie.decreases-loop
 decreases-loop s out₀ k q times g₀ out g = 64 - g
 
 loop-holds : tie.Need-loop-init invariant-loop decreases-loop
-loop-holds c = let p = c.before.before.requires in none-moved p.0.0 p.1.0 p.1.1
+loop-holds c = let p = c.before.before.requires in none_moved p.0.0 p.1.0 p.1.1
 
 load-requires : tie.Need-load-requires invariant-loop decreases-loop
 load-requires c κs =
@@ -27,7 +27,7 @@ mul : tie.Need-overflow-mul-store invariant-loop decreases-loop
 mul c =
     let t = c.before.before in
     let l = t.before.loop.invariant in
-    omega (arith, tile-ends l t.loop-test.true, l.given)
+    omega (arith, tile_ends l t.loop-test.true, l.given)
 
 transpose-requires : tie.Need-transpose-requires invariant-loop decreases-loop
 transpose-requires c κs = c.before.before.before.before.before.before.requires.0.1
@@ -41,7 +41,7 @@ store-requires c κs =
 add-g : tie.Need-overflow-add-g invariant-loop decreases-loop
 add-g c =
     let t = c.before.before.before.before.before.before in
-    omega (arith, tile-inside t.before.loop.invariant t.loop-test.true)
+    omega (arith, tile_inside t.before.loop.invariant t.loop-test.true)
 
 loop-less : tie.Need-loop-smaller invariant-loop decreases-loop
 loop-less c =
@@ -59,13 +59,13 @@ loop-again c =
     let x = one.load.result in
     let e : two.transpose.result ≡ transposed a.k a.q x =
     two.transpose.ensures ∙ ap₂ {C = List ℕ} (λ m n. transposed m n x) (sym p.2) (sym p.3) in
-    restore-more t.before.loop.invariant t.loop-test.true x two.transpose.result _ one.load.ensures e c.before.before.store.ensures
+    restore_more t.before.loop.invariant t.loop-test.true x two.transpose.result _ one.load.ensures e c.before.before.store.ensures
 
 same_length : tie.Need-same-length invariant-loop decreases-loop
 same_length c = c.before.loop.invariant.size
 
 returns : tie.Need-returns invariant-loop decreases-loop
-returns c = restore-all (search rules) c.before.loop.invariant
+returns c = restore_all (search rules) c.before.loop.invariant
 
 pub restore-spec : {M : Type 1} → statement M
 restore-spec =

@@ -4,8 +4,8 @@ use Prim.Native.Nat.{ℕ, ◌-◌}
 use borrow.Author.Rules.{rules}
 use native.Mathlib.Omega.{arith}
 use Rattle.shuffle.specs.Transposed.{transposed}
-use Rattle.record.proofs.Moved.{Moved, plain, across, none-moved, some_words, tile-inside, tile-ends}
-use Rattle.record.proofs.Moved.{rows_inside, row_inside, shuffle-more, shuffle-all}
+use Rattle.record.proofs.Moved.{Moved, plain, across, none_moved, some_words, tile_inside, tile_ends}
+use Rattle.record.proofs.Moved.{rows_inside, row_inside, shuffle_more, shuffle_all}
 use Rattle.record.proofs.shuffle.Statement.{statement}
 use Rattle.record.proofs.shuffle.Tie as tie
 
@@ -16,7 +16,7 @@ abbrev decreases-loop : tie.decreases-loop
 decreases-loop s out₀ k q times g₀ out g = 64 - g
 
 loop-holds : tie.Need-loop-init invariant-loop decreases-loop
-loop-holds c = let p = c.before.before.requires in none-moved p.0.0 p.1.0 p.1.1
+loop-holds c = let p = c.before.before.requires in none_moved p.0.0 p.1.0 p.1.1
 
 load-requires : tie.Need-load-requires invariant-loop decreases-loop
 load-requires c κs =
@@ -26,7 +26,7 @@ load-requires c κs =
 mul : tie.Need-overflow-mul-load invariant-loop decreases-loop
 mul c =
     let l = c.before.loop.invariant in
-    omega (arith, tile-ends l c.loop-test.true, l.given)
+    omega (arith, tile_ends l c.loop-test.true, l.given)
 
 transpose-requires : tie.Need-transpose-requires invariant-loop decreases-loop
 transpose-requires c κs = c.before.before.before.before.before.before.requires.0.1
@@ -40,7 +40,7 @@ store-requires c κs =
 add-g : tie.Need-overflow-add-g invariant-loop decreases-loop
 add-g c =
     let t = c.before.before.before.before.before.before in
-    omega (arith, tile-inside t.before.loop.invariant t.loop-test.true)
+    omega (arith, tile_inside t.before.loop.invariant t.loop-test.true)
 
 loop-less : tie.Need-loop-smaller invariant-loop decreases-loop
 loop-less c =
@@ -58,13 +58,13 @@ loop-again c =
     let x = one.load.result in
     let e : two.transpose.result ≡ transposed a.q a.k x =
     two.transpose.ensures ∙ ap₂ {C = List ℕ} (λ m n. transposed m n x) (sym p.2) (sym p.3) in
-    shuffle-more t.before.loop.invariant t.loop-test.true x two.transpose.result _ one.load.ensures e c.before.before.store.ensures
+    shuffle_more t.before.loop.invariant t.loop-test.true x two.transpose.result _ one.load.ensures e c.before.before.store.ensures
 
 same_length : tie.Need-same-length invariant-loop decreases-loop
 same_length c = c.before.loop.invariant.size
 
 returns : tie.Need-returns invariant-loop decreases-loop
-returns c = shuffle-all (search rules) c.before.loop.invariant
+returns c = shuffle_all (search rules) c.before.loop.invariant
 
 pub shuffle-spec : {M : Type 1} → statement M
 shuffle-spec =

@@ -17,7 +17,7 @@ returns-3 c =
     rw (
       goes_on i.in-form.ensures c.before.before.if1.false,
       le-leb _ _ (ltb-false _ _ c.before.if2.false),
-      lt-leb _ _ (ltb-true _ _ (sym i.before.is-short.ensures ∙ c.if3.true)),
+      lt-leb _ _ (ltb-true _ _ (sym i.before.is_short.ensures ∙ c.if3.true)),
     )
 
 returns-4 : tie.Need-returns-4
@@ -26,7 +26,7 @@ returns-4 c =
     rw (
       goes_on i.in-form.ensures c.before.before.if1.false,
       le-leb _ _ (ltb-false _ _ c.before.if2.false),
-      le-leb _ _ (ltb-false _ _ (sym i.before.is-short.ensures ∙ c.if3.false)),
+      le-leb _ _ (ltb-false _ _ (sym i.before.is_short.ensures ∙ c.if3.false)),
     )
 
 pub finishing-spec : {M : Type 1} → statement M

@@ -1,5 +1,5 @@
 use borrow.Author.Rules.{rules}
-use Rattle.replayer.proofs.Tested.{width-refused}
+use Rattle.replayer.proofs.Tested.{width_refused}
 use Rattle.replayer.proofs.first_false_record.Statement.{statement}
 use Rattle.replayer.proofs.first_false_record.Tie as tie
 
@@ -12,7 +12,7 @@ returns-2 c = rw c.before.before.before.if2.true c.before.replay-at2.ensures
 returns-3 : tie.Need-returns-3
 returns-3 c =
     let a = c.before.before.before.before.before.args in
-    width-refused a.width a.sheet.now a.vectors.now a.records.now c.before.if1.false c.if2.false
+    width_refused a.width a.sheet.now a.vectors.now a.records.now c.before.if1.false c.if2.false
 
 pub first-false-record-spec : {M : Type 1} → statement M
 first-false-record-spec =

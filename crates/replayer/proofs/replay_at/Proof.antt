@@ -5,8 +5,8 @@ use borrow.Author.Rules.{rules}
 use borrow.Author.Tests.{eqb-true}
 use lib.ListN.{length}
 use Rattle.answer.proofs.Tests.{goes_on, stops}
-use Rattle.sheet.specs.Read.{placeCount}
-use Rattle.replayer.proofs.Tested.{copied, whole-records, size-refused, fault-refused, records-refused, replayed}
+use Rattle.sheet.specs.Read.{place_count}
+use Rattle.replayer.proofs.Tested.{copied, whole_records, size_refused, fault_refused, records_refused, replayed}
 use Rattle.replayer.proofs.replay_at.Statement.{statement}
 use Rattle.replayer.proofs.replay_at.Tie as tie
 
@@ -14,14 +14,14 @@ returns : tie.Need-returns
 returns c =
     let p = c.before.before.before.before.before.before in
     let a = p.args in
-    size-refused a.width a.sheet.now a.vectors.now a.records.now p.requires.0 (stops c.before.vectors-fit.ensures c.if1.true)
+    size_refused a.width a.sheet.now a.vectors.now a.records.now p.requires.0 (stops c.before.vectors-fit.ensures c.if1.true)
 
 copy-at-requires : tie.Need-copy-at-requires
 copy-at-requires c κs =
     let i = c.before.before.before.before.before.before.before.before.before.before in
     let p = i.before.before.before.before.before.before in
     let a = p.args in
-    omega (arith, p.requires.1, eqb-true (length a.vectors.now) (placeCount * a.width) (goes_on i.before.vectors-fit.ensures i.if1.false))
+    omega (arith, p.requires.1, eqb-true (length a.vectors.now) (place_count * a.width) (goes_on i.before.vectors-fit.ensures i.if1.false))
 
 first-false-requires : tie.Need-first-false-requires
 first-false-requires c κs =
@@ -30,7 +30,7 @@ first-false-requires c κs =
     let i = q.before.before.before.before.before.before.before in
     let p = i.before.before.before.before.before.before in
     let a = p.args in
-    let whole = whole-records a.width (length a.records.now) q.before.before.commands.given.0.0 m.enum_told.given.0.0
+    let whole = whole_records a.width (length a.records.now) q.before.before.commands.given.0.0 m.enum_told.given.0.0
     q.records-answer.ensures m.enum_told.given.1 in
     (p.requires.0, search (rules, p.requires.1), whole)
 
@@ -46,7 +46,7 @@ returns-2 c =
     let p = i.before.before.before.before.before.before in
     let a = p.args in
     let h = goes_on i.before.vectors-fit.ensures i.if1.false in
-    let e : length a.vectors.now ≡ placeCount * a.width = eqb-true (length a.vectors.now) (placeCount * a.width) h in
+    let e : length a.vectors.now ≡ place_count * a.width = eqb-true (length a.vectors.now) (place_count * a.width) h in
     replayed a.width a.sheet.now a.vectors.now a.records.now p.requires.0 h (sym d.commands.given.1 ∙ k.check.ensures.0)
     q.records-answer.ensures m.enum_told.given.0.0 m.enum_told.given.1 o.copy_at.new.0
     (copied a.vectors.now a.state.now (e ∙ sym p.requires.1) o.copy_at.ensures) y.first-false.ensures.0
@@ -59,7 +59,7 @@ returns-3 c =
     let i = k.before.before in
     let p = i.before.before.before.before.before.before in
     let a = p.args in
-    records-refused a.width a.sheet.now a.vectors.now a.records.now p.requires.0 (goes_on i.before.vectors-fit.ensures i.if1.false)
+    records_refused a.width a.sheet.now a.vectors.now a.records.now p.requires.0 (goes_on i.before.vectors-fit.ensures i.if1.false)
     (sym d.commands.given.1 ∙ k.check.ensures.0) q.records-answer.ensures c.before.r.given.0.0 c.before.r.given.0.1.0
     c.before.r.given.1
 
@@ -69,7 +69,7 @@ returns-4 c =
     let i = k.before.before in
     let p = i.before.before.before.before.before.before in
     let a = p.args in
-    fault-refused a.width a.sheet.now a.vectors.now a.records.now p.requires.0 (goes_on i.before.vectors-fit.ensures i.if1.false)
+    fault_refused a.width a.sheet.now a.vectors.now a.records.now p.requires.0 (goes_on i.before.vectors-fit.ensures i.if1.false)
     c.before.r2.given.0.0 c.before.r2.given.0.1.0 (sym c.before.r2.given.1 ∙ k.check.ensures.0)
 
 pub replay-at-spec : {M : Type 1} → statement M

@@ -5,18 +5,18 @@ use borrow.Author.Rules.{rules}
 use borrow.Author.Tests.{eqb-true}
 use lib.ListN.{length, replicate}
 use Rattle.answer.proofs.Tests.{goes_on, stops}
-use Rattle.sheet.specs.Read.{placeCount}
+use Rattle.sheet.specs.Read.{place_count}
 use Rattle.invertible.specs.RoundTrip.{Backward}
-use Rattle.sheet.proofs.Checked.{whole-offsets}
-use Rattle.sheet.proofs.Ran.{size-refused, fault-refused}
-use Rattle.run.proofs.Whole.{backward-whole}
+use Rattle.sheet.proofs.Checked.{whole_offsets}
+use Rattle.sheet.proofs.Ran.{size_refused, fault_refused}
+use Rattle.run.proofs.Whole.{backward_whole}
 use Rattle.run.proofs.backward_at.Statement.{statement}
 use Rattle.run.proofs.backward_at.Tie as tie
 
 returns : tie.Need-returns
 returns c =
     let p = c.before.before.before.before in
-    size-refused Backward p.args.width p.args.sheet.now p.args.vectors.now p.requires (stops c.before.vectors-fit.ensures c.if1.true)
+    size_refused Backward p.args.width p.args.sheet.now p.args.vectors.now p.requires (stops c.before.vectors-fit.ensures c.if1.true)
 
 backward-requires : tie.Need-backward-requires
 backward-requires c κs =
@@ -27,8 +27,8 @@ backward-requires c κs =
     let a = p.args in
     let e = sym g.n.given.1 ∙ k.check.ensures.0 in (
       p.requires,
-      eqb-true (length a.vectors.now) (placeCount * a.width) (goes_on t.before.vectors-fit.ensures t.if1.false),
-      (whole-offsets a.width a.sheet.now e (replicate 2048 0) (search rules) k.check.ensures.1).0,
+      eqb-true (length a.vectors.now) (place_count * a.width) (goes_on t.before.vectors-fit.ensures t.if1.false),
+      (whole_offsets a.width a.sheet.now e (replicate 2048 0) (search rules) k.check.ensures.1).0,
     )
 
 returns-2 : tie.Need-returns-2
@@ -41,9 +41,9 @@ returns-2 c =
     let w = p.args.width in
     let s = p.args.sheet.now in
     let e = sym g.n.given.1 ∙ k.check.ensures.0 in
-    backward-whole w s p.args.vectors.now e p.requires (goes_on t.before.vectors-fit.ensures t.if1.false)
+    backward_whole w s p.args.vectors.now e p.requires (goes_on t.before.vectors-fit.ensures t.if1.false)
     f.backward.new.1.1.1.1.0 (λ i. omega (arith, c.slice-known2.given i)) (search rules) _
-    (whole-offsets w s e (replicate 2048 0) (search rules) k.check.ensures.1).1 f.backward.ensures
+    (whole_offsets w s e (replicate 2048 0) (search rules) k.check.ensures.1).1 f.backward.ensures
 
 returns-3 : tie.Need-returns-3
 returns-3 c =
@@ -51,7 +51,7 @@ returns-3 c =
     let k = g.before.before.before in
     let t = k.before.before in
     let p = t.before.before.before.before in
-    fault-refused Backward p.args.width p.args.sheet.now p.args.vectors.now p.requires (goes_on t.before.vectors-fit.ensures t.if1.false)
+    fault_refused Backward p.args.width p.args.sheet.now p.args.vectors.now p.requires (goes_on t.before.vectors-fit.ensures t.if1.false)
     g.r.given.0.0 g.r.given.0.1.0 (sym g.r.given.1 ∙ k.check.ensures.0)
 
 pub backward-at-spec : {M : Type 1} → statement M

@@ -3,7 +3,7 @@ use mathlib.Core.Path.{sym, ◌∙◌}
 use native.Mathlib.Omega.{arith}
 use lib.ListN.{length}
 use Prim.Native.Nat.{◌-◌, ◌≤◌}
-use Rattle.sheet.proofs.Sound.{got-sound, fault-inside}
+use Rattle.sheet.proofs.Sound.{got_sound, fault_inside}
 use Rattle.scanner.proofs.Scanning.{Scanning, started, more, faulty, ended}
 use Rattle.scanner.proofs.scan.Statement.{statement}
 use Rattle.scanner.proofs.scan.Tie as tie
@@ -41,7 +41,7 @@ add-units c =
     let g = c.before.before.before.before.before.before.before in
     let p = g.before.before.before in
     let a = p.before.before.before.args in
-    let h = got-sound a.width a.sheet.now p.loop.at (sym g.before.before.read-command.ensures ∙ g.d.given.1) in
+    let h = got_sound a.width a.sheet.now p.loop.at (sym g.before.before.read-command.ensures ∙ g.d.given.1) in
     omega (arith, h.few)
 
 loop-less : tie.Need-loop-smaller invariant-loop decreases-loop
@@ -51,7 +51,7 @@ loop-less c =
     let p = g.before.before.before in
     let a = p.before.before.before.args in
     let e = sym g.before.before.read-command.ensures ∙ g.d.given.1 in
-    let h = got-sound a.width a.sheet.now p.loop.at e in
+    let h = got_sound a.width a.sheet.now p.loop.at e in
     omega (arith, h.on, h.within)
 
 loop-again : tie.Need-loop-preserved invariant-loop decreases-loop
@@ -61,7 +61,7 @@ loop-again c =
     let p = g.before.before.before in
     let a = p.before.before.before.args in
     let e = sym g.before.before.read-command.ensures ∙ g.d.given.1 in
-    let h = got-sound a.width a.sheet.now p.loop.at e in (
+    let h = got_sound a.width a.sheet.now p.loop.at e in (
       p.loop.invariant.0,
       more a.width a.sheet.now a.start p.loop.invariant.1 g.d.given.0.0 e h m.remember.ensures c.before.met.ensures,
     )
@@ -81,7 +81,7 @@ returns c =
     let p = g.before.before.before in
     let a = p.before.before.before.args in
     let e = sym g.before.before.read-command.ensures ∙ g.r.given.1 in
-    faulty a.width a.sheet.now a.start p.loop.invariant.1 g.r.given.0.0 e (fault-inside a.width a.sheet.now p.loop.at e)
+    faulty a.width a.sheet.now a.start p.loop.invariant.1 g.r.given.0.0 e (fault_inside a.width a.sheet.now p.loop.at e)
 
 enum_told : tie.Need-enum-told invariant-loop decreases-loop
 enum_told c = search rules

@@ -1,14 +1,14 @@
 use Prim.Native.Nat.{◌-◌}
 use borrow.Author.Rules.{rules}
 use native.Mathlib.Omega.{arith}
-use Rattle.shuffle.specs.Shuffle.{unshuffledRecord}
-use Rattle.shuffle.proofs.Widths.{sized, unshuffled-keeps}
+use Rattle.shuffle.specs.Shuffle.{unshuffled_record}
+use Rattle.shuffle.proofs.Widths.{sized, unshuffled_keeps}
 use Rattle.shuffler.proofs.Loop.{Progress, begin, same_size, inside, few, starts, asked, next, end}
 use Rattle.shuffler.proofs.restore_records.Statement.{statement}
 use Rattle.shuffler.proofs.restore_records.Tie as tie
 
 abbrev invariant-loop : tie.invariant-loop
-invariant-loop width records out₀ size count i₀ out i = Progress unshuffledRecord width records out₀ size count i out
+invariant-loop width records out₀ size count i₀ out i = Progress unshuffled_record width records out₀ size count i out
 
 abbrev decreases-loop : tie.decreases-loop
 decreases-loop width records out₀ size count i₀ out i = count - i
@@ -19,41 +19,41 @@ div-count c = (sized c.before.before.args.width c.before.before.requires.0).some
 loop-holds : tie.Need-loop-init invariant-loop decreases-loop
 loop-holds c =
     let t = c.before.before in
-    begin unshuffledRecord t.args.width t.args.records.now t.args.out.now t.requires.0 t.requires.1 t.requires.2
+    begin unshuffled_record t.args.width t.args.records.now t.args.out.now t.requires.0 t.requires.1 t.requires.2
 
 mul-from : tie.Need-overflow-mul-from invariant-loop decreases-loop
-mul-from c = omega (arith, inside unshuffled-keeps c.before.loop.invariant c.loop-test.true, c.before.before.before.before.well-formed)
+mul-from c = omega (arith, inside unshuffled_keeps c.before.loop.invariant c.loop-test.true, c.before.before.before.before.well-formed)
 
 add-to : tie.Need-overflow-add-to invariant-loop decreases-loop
-add-to c = omega (arith, inside unshuffled-keeps c.before.loop.invariant c.loop-test.true, c.before.before.before.before.well-formed)
+add-to c = omega (arith, inside unshuffled_keeps c.before.loop.invariant c.loop-test.true, c.before.before.before.before.well-formed)
 
 part_end : tie.Need-slice-bounds-restore-record-end invariant-loop decreases-loop
-part_end c = inside unshuffled-keeps c.before.loop.invariant c.loop-test.true
+part_end c = inside unshuffled_keeps c.before.loop.invariant c.loop-test.true
 
 sub-2 : tie.Need-overflow-sub-restore-record-2 invariant-loop decreases-loop
-sub-2 c = starts unshuffled-keeps c.before.before.loop.invariant
+sub-2 c = starts unshuffled_keeps c.before.before.loop.invariant
 
 part-start-2 : tie.Need-slice-bounds-restore-record-start-2 invariant-loop decreases-loop
-part-start-2 c = starts unshuffled-keeps c.before.before.loop.invariant
+part-start-2 c = starts unshuffled_keeps c.before.before.loop.invariant
 
 requires : tie.Need-restore-record-requires invariant-loop decreases-loop
-requires c κs = asked unshuffled-keeps c.before.before.before.loop.invariant c.before.before.loop-test.true
+requires c κs = asked unshuffled_keeps c.before.before.before.loop.invariant c.before.before.loop-test.true
 
 add-i : tie.Need-overflow-add-i invariant-loop decreases-loop
 add-i c =
     let t = c.before.before.before.before.before in
-    omega (arith, few unshuffled-keeps t.before.loop.invariant, t.loop-test.true, t.before.before.before.before.well-formed)
+    omega (arith, few unshuffled_keeps t.before.loop.invariant, t.loop-test.true, t.before.before.before.before.well-formed)
 
 loop-again : tie.Need-loop-preserved invariant-loop decreases-loop
 loop-again c =
     let t = c.before.before.before.before.before in
-    next unshuffled-keeps t.before.loop.invariant t.loop-test.true _ c.before.before.restore-record.ensures
+    next unshuffled_keeps t.before.loop.invariant t.loop-test.true _ c.before.before.restore-record.ensures
 
 same_length : tie.Need-same-length invariant-loop decreases-loop
-same_length c = same_size unshuffled-keeps c.before.loop.invariant
+same_length c = same_size unshuffled_keeps c.before.loop.invariant
 
 returns : tie.Need-returns invariant-loop decreases-loop
-returns c = end unshuffled-keeps c.before.loop.invariant (search rules)
+returns c = end unshuffled_keeps c.before.loop.invariant (search rules)
 
 pub restore-records-spec : {M : Type 1} → statement M
 restore-records-spec =

@@ -1,5 +1,5 @@
 use borrow.Author.Rules.{rules}
-use Rattle.shuffle.specs.Shuffle.{unshuffledRecord}
+use Rattle.shuffle.specs.Shuffle.{unshuffled_record}
 use Rattle.shuffler.proofs.Called.{refused, asked, written}
 use Rattle.shuffler.proofs.unshuffle.Statement.{statement}
 use Rattle.shuffler.proofs.unshuffle.Tie as tie
@@ -8,21 +8,21 @@ returns : tie.Need-returns
 returns c =
     let t = c.before.before in
     let a = t.before.before.before.before.args in
-    refused unshuffledRecord a.width a.records.now a.out.now t.answer-for.ensures c.before.is-done.ensures c.if1.true
+    refused unshuffled_record a.width a.records.now a.out.now t.answer-for.ensures c.before.is-done.ensures c.if1.true
 
 restore-records-requires : tie.Need-restore-records-requires
 restore-records-requires c κs =
     let i = c.before in
     let t = i.before.before in
     let a = t.before.before.before.before.args in
-    asked unshuffledRecord a.width a.records.now a.out.now t.answer-for.ensures i.before.is-done.ensures i.if1.false
+    asked unshuffled_record a.width a.records.now a.out.now t.answer-for.ensures i.before.is-done.ensures i.if1.false
 
 returns-2 : tie.Need-returns-2
 returns-2 c =
     let i = c.before.before.before.before in
     let t = i.before.before in
     let a = t.before.before.before.before.args in
-    written unshuffledRecord a.width a.records.now a.out.now t.answer-for.ensures i.before.is-done.ensures i.if1.false
+    written unshuffled_record a.width a.records.now a.out.now t.answer-for.ensures i.before.is-done.ensures i.if1.false
     c.before.before.restore-records.ensures
 
 pub unshuffle-spec : {M : Type 1} → statement M

@@ -1,11 +1,11 @@
 use mathlib.Core.Path.{sym, ap}
 use borrow.Author.Rules.{rules}
-use Rattle.slice.specs.Number.{sliceNumber}
+use Rattle.slice.specs.Number.{slice_number}
 use Rattle.slice.proofs.number.Statement.{statement}
 use Rattle.slice.proofs.number.Tie as tie
 
 returns : tie.Need-returns
-returns c = sym (ap sliceNumber c.before.a.given.1)
+returns c = sym (ap slice_number c.before.a.given.1)
 
 returns-2 : tie.Need-returns-2
 returns-2 c = rw c.before.before.a2.given.1 c.number.ensures

@@ -1,5 +1,5 @@
 use borrow.Author.Rules.{rules}
-use Rattle.slicer.proofs.Sliced.{width-refused}
+use Rattle.slicer.proofs.Sliced.{width_refused}
 use Rattle.slicer.proofs.run_slice.Statement.{statement}
 use Rattle.slicer.proofs.run_slice.Tie as tie
 
@@ -12,7 +12,7 @@ returns-2 c = rw c.before.before.before.before.if2.true c.before.before.slice-at
 returns-3 : tie.Need-returns-3
 returns-3 c =
     let a = c.before.before.before.before.args in
-    width-refused a.budget a.width a.sheet.now a.offset a.vectors.now c.before.if1.false c.if2.false
+    width_refused a.budget a.width a.sheet.now a.offset a.vectors.now c.before.if1.false c.if2.false
 
 pub run-slice-spec : {M : Type 1} → statement M
 run-slice-spec =

@@ -4,7 +4,7 @@ use Prim.Native.Nat.{ℕ}
 use native.Mathlib.Omega.{arith}
 use borrow.Author.Rules.{rules}
 use Rattle.text.specs.Pushed.{Pushed}
-use Rattle.text.proofs.Decimal.{decimal-written, twenty}
+use Rattle.text.proofs.Decimal.{decimal_written, twenty}
 use Rattle.text.proofs.push_number.Statement.{statement}
 use Rattle.text.proofs.push_number.Tie as tie
 
@@ -22,7 +22,7 @@ returns c =
     let d = p.decimal in
     let a = p.before.before.before.args in
     let pushed : List ℕ → Type 0 = λ t. Pushed a.out.now a.at t q.push-text.new.0 q.push-text.result in (
-      subst pushed (d.ensures.1.1 ∙ decimal-written d.result a.n d.ensures.1.0) q.push-text.ensures,
+      subst pushed (d.ensures.1.1 ∙ decimal_written d.result a.n d.ensures.1.0) q.push-text.ensures,
       omega (arith, q.push-text.ensures.behind, d.ensures.0.1, twenty d.result a.n d.ensures.1.0 (search rules)),
     )
 

@@ -2,7 +2,7 @@ use mathlib.Core.Path.{subst}
 use Prim.Native.Nat.{ℕ}
 use native.Mathlib.Omega.{arith}
 use borrow.Author.Rules.{rules}
-use Rattle.text.specs.Label.{labelled, refusedWord}
+use Rattle.text.specs.Label.{labelled, refused_word}
 use Rattle.text.specs.Pushed.{Pushed}
 use Rattle.text.proofs.push_refused.Statement.{statement}
 use Rattle.text.proofs.push_refused.Tie as tie
@@ -12,7 +12,7 @@ returns c =
     let p = c.before.before in
     let n = p.before in
     let a = n.before.before.before.before.args in
-    let pushed : ℕ → Type 0 = λ k. Pushed a.out.now 0 (labelled refusedWord k) p.push-labelled.new.0 p.push-labelled.result in
+    let pushed : ℕ → Type 0 = λ k. Pushed a.out.now 0 (labelled refused_word k) p.push-labelled.new.0 p.push-labelled.result in
     (subst pushed n.refusal-number.ensures.0 p.push-labelled.ensures.0, omega (arith, p.push-labelled.ensures.1))
 
 pub push-refused-spec : {M : Type 1} → statement M

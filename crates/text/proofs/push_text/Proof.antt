@@ -4,7 +4,7 @@ use Prim.Native.Nat.{◌+◌, ◌-◌, ◌≤◌}
 use native.Mathlib.Omega.{arith}
 use borrow.Author.Rules.{rules}
 use lib.ListN.{length, get_or, drop, drop_of_length-le}
-use Rattle.text.proofs.Partly.{Partly, rest-begins, none_yet, one_more, all-stored}
+use Rattle.text.proofs.Partly.{Partly, rest_begins, none_yet, one_more, all_stored}
 use Rattle.text.proofs.push_text.Statement.{statement}
 use Rattle.text.proofs.push_text.Tie as tie
 
@@ -42,7 +42,7 @@ loop-again c =
       omega arith,
       omega (arith, q.behind),
       search rules,
-      one_more (drop i t) (get_or t i 0 ∷ []) (drop (i + 1) t) p.loop.invariant.4 (rest-begins t i (omega arith)) q,
+      one_more (drop i t) (get_or t i 0 ∷ []) (drop (i + 1) t) p.loop.invariant.4 (rest_begins t i (omega arith)) q,
     )
 
 same_length : tie.Need-same-length invariant-loop decreases-loop
@@ -53,7 +53,7 @@ returns c =
     let p = c.before in
     let t = p.before.before.before.args.text.now in
     let l : length t ≤ p.loop.i = omega arith in
-    all-stored (drop p.loop.i t) p.loop.invariant.4 (drop_of_length-le t l)
+    all_stored (drop p.loop.i t) p.loop.invariant.4 (drop_of_length-le t l)
 
 pub push-text-spec : {M : Type 1} → statement M
 push-text-spec =

@@ -1,7 +1,7 @@
 use mathlib.Core.Path.{refl}
 use Prim.Native.Nat.{◌-◌}
 use borrow.Author.Rules.{rules}
-use Rattle.tile.proofs.Interleaved.{Interleaving, interleaving-none, interleaving-next, interleaving-all}
+use Rattle.tile.proofs.Interleaved.{Interleaving, interleaving_none, interleaving_next, interleaving_all}
 use Rattle.tile.proofs.interleave.Statement.{statement}
 use Rattle.tile.proofs.interleave.Tie as tie
 
@@ -12,13 +12,13 @@ abbrev decreases-loop : tie.decreases-loop
 decreases-loop x r₀ n₀ r n = 64 - n
 
 loop-holds : tie.Need-loop-init invariant-loop decreases-loop
-loop-holds c = interleaving-none c.args.t1 _ refl
+loop-holds c = interleaving_none c.args.t1 _ refl
 
 loop-again : tie.Need-loop-preserved invariant-loop decreases-loop
-loop-again c = interleaving-next c.before.before.args.t1 c.before.loop.invariant c.loop-test.true
+loop-again c = interleaving_next c.before.before.args.t1 c.before.loop.invariant c.loop-test.true
 
 returns : tie.Need-returns invariant-loop decreases-loop
-returns c = interleaving-all c.before.before.args.t1 c.before.loop.invariant (search rules)
+returns c = interleaving_all c.before.before.args.t1 c.before.loop.invariant (search rules)
 
 pub interleave-spec : {M : Type 1} → statement M
 interleave-spec =

@@ -3,7 +3,7 @@ use Prim.Native.Nat.{◌-◌}
 use borrow.Author.Rules.{rules}
 use native.Mathlib.Omega.{arith}
 use Rattle.tile.specs.Copy.{zeros}
-use Rattle.tile.proofs.Copy.{Filling, fill-begin, fill-size, column-to, column-from, place-from, rows_next, rows_end}
+use Rattle.tile.proofs.Copy.{Filling, fill_begin, fill_size, column_to, column_from, place_from, rows_next, rows_end}
 use Rattle.tile.proofs.load.Statement.{statement}
 use Rattle.tile.proofs.load.Tie as tie
 
@@ -15,19 +15,19 @@ decreases-loop s i d k q r₀ n₀ r n = q - n
 
 loop-holds : tie.Need-loop-init invariant-loop decreases-loop
 unfolding zeros
-loop-holds c = fill-begin c.before.requires.0 c.before.requires.1
+loop-holds c = fill_begin c.before.requires.0 c.before.requires.1
 
 room : tie.Need-slice-aggregate-copy-strided invariant-loop decreases-loop
-room c = sym (fill-size c.before.before.loop.invariant)
+room c = sym (fill_size c.before.before.loop.invariant)
 
 add-i : tie.Need-overflow-add-copy-strided invariant-loop decreases-loop
-add-i c = omega (arith, place-from c.before.before.loop.invariant c.before.loop-test.true)
+add-i c = omega (arith, place_from c.before.before.loop.invariant c.before.loop-test.true)
 
 requires : tie.Need-copy-strided-requires invariant-loop decreases-loop
 requires c κs =
     let l = c.before.before.loop in
     let h = c.before.loop-test.true in
-    (column-to l.invariant h l.n (omega arith), column-from l.invariant h _ refl)
+    (column_to l.invariant h l.n (omega arith), column_from l.invariant h _ refl)
 
 loop-again : tie.Need-loop-preserved invariant-loop decreases-loop
 loop-again c =

@@ -3,7 +3,7 @@ use Prim.Native.Nat.{ℕ, ◌-◌, ◌≤◌}
 use borrow.Author.Rules.{rules}
 use native.Mathlib.Omega.{arith}
 use Rattle.shuffle.specs.Transposed.{transposed}
-use Rattle.tile.proofs.Interleaved.{repeated, repeated-none, repeated-more}
+use Rattle.tile.proofs.Interleaved.{repeated, repeated_none, repeated_more}
 use Rattle.tile.proofs.transpose.Statement.{statement}
 use Rattle.tile.proofs.transpose.Tie as tie
 
@@ -14,14 +14,14 @@ abbrev decreases-loop : tie.decreases-loop
 decreases-loop times r₀ n₀ r n = times - n
 
 loop-holds : tie.Need-loop-init invariant-loop decreases-loop
-loop-holds c = (search rules, c.requires, repeated-none c.args.x (search rules))
+loop-holds c = (search rules, c.requires, repeated_none c.args.x (search rules))
 
 loop-again : tie.Need-loop-preserved invariant-loop decreases-loop
 loop-again c =
     let l = c.before.before.loop in (
       omega arith,
       l.invariant.1,
-      c.interleave.ensures ∙ ap (transposed 2 64) l.invariant.2 ∙ repeated-more l.n c.before.before.before.args.x (omega (arith, l.invariant.1, c.before.loop-test.true)),
+      c.interleave.ensures ∙ ap (transposed 2 64) l.invariant.2 ∙ repeated_more l.n c.before.before.before.args.x (omega (arith, l.invariant.1, c.before.loop-test.true)),
     )
 
 returns : tie.Need-returns invariant-loop decreases-loop

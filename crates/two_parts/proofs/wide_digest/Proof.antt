@@ -1,7 +1,7 @@
 use borrow.Author.Rules.{rules}
-use Rattle.digest.proofs.Answers.{wide-sized}
-use Rattle.digest.proofs.TwoParts.{opening-refused, first-refused, second-refused, both-fed}
-use Rattle.wide.proofs.Whole.{opened-parts, fed-parts}
+use Rattle.digest.proofs.Answers.{wide_sized}
+use Rattle.digest.proofs.TwoParts.{opening_refused, first_refused, second_refused, both_fed}
+use Rattle.wide.proofs.Whole.{opened_parts, fed_parts}
 use Rattle.two_parts.proofs.wide_digest.Statement.{statement}
 use Rattle.two_parts.proofs.wide_digest.Tie as tie
 
@@ -10,7 +10,7 @@ returns c =
     let t = c.before in
     let o = t.before in
     let a = o.before.before.before.before.args in
-    opening-refused wide-sized a.size a.first.now a.second.now a.out.now (opened-parts _ o.«open».ensures) t.is-done.ensures
+    opening_refused wide_sized a.size a.first.now a.second.now a.out.now (opened_parts _ o.«open».ensures) t.is-done.ensures
     c.if1.true
 
 returns-2 : tie.Need-returns-2
@@ -21,8 +21,8 @@ returns-2 c =
     let t = i.before in
     let o = t.before in
     let a = o.before.before.before.before.args in
-    first-refused wide-sized a.size a.first.now a.second.now a.out.now (opened-parts _ o.«open».ensures) t.is-done.ensures
-    i.if1.false (fed-parts _ _ f.feed.ensures) u.is-done2.ensures c.if2.true
+    first_refused wide_sized a.size a.first.now a.second.now a.out.now (opened_parts _ o.«open».ensures) t.is-done.ensures
+    i.if1.false (fed_parts _ _ f.feed.ensures) u.is-done2.ensures c.if2.true
 
 returns-3 : tie.Need-returns-3
 returns-3 c =
@@ -35,8 +35,8 @@ returns-3 c =
     let t = i.before in
     let o = t.before in
     let a = o.before.before.before.before.args in
-    second-refused wide-sized a.size a.first.now a.second.now a.out.now (opened-parts _ o.«open».ensures) t.is-done.ensures
-    i.if1.false (fed-parts _ _ f.feed.ensures) u.is-done2.ensures j.if2.false (fed-parts _ _ g.feed2.ensures) v.is-done3.ensures
+    second_refused wide_sized a.size a.first.now a.second.now a.out.now (opened_parts _ o.«open».ensures) t.is-done.ensures
+    i.if1.false (fed_parts _ _ f.feed.ensures) u.is-done2.ensures j.if2.false (fed_parts _ _ g.feed2.ensures) v.is-done3.ensures
     c.if3.true
 
 returns-4 : tie.Need-returns-4
@@ -52,8 +52,8 @@ returns-4 c =
     let t = i.before in
     let o = t.before in
     let a = o.before.before.before.before.args in
-    both-fed wide-sized a.size a.first.now a.second.now a.out.now (opened-parts _ o.«open».ensures) t.is-done.ensures
-    i.if1.false (fed-parts _ _ f.feed.ensures) u.is-done2.ensures j.if2.false (fed-parts _ _ g.feed2.ensures) v.is-done3.ensures
+    both_fed wide_sized a.size a.first.now a.second.now a.out.now (opened_parts _ o.«open».ensures) t.is-done.ensures
+    i.if1.false (fed_parts _ _ f.feed.ensures) u.is-done2.ensures j.if2.false (fed_parts _ _ g.feed2.ensures) v.is-done3.ensures
     k.if3.false 0 e.finish.ensures
 
 pub wide-digest-spec : {M : Type 1} → statement M

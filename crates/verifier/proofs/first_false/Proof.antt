@@ -5,7 +5,7 @@ use borrow.Author.Rules.{rules}
 use borrow.Author.Tests.{not-true, not-false}
 use lib.ListN.{length}
 use Rattle.answer.proofs.Tests as Tests
-use Rattle.verifier.proofs.Loop.{Replayed, begin, some_bytes, room, few, holds-all, all_done, one-done, found-false, goes_on}
+use Rattle.verifier.proofs.Loop.{Replayed, begin, some_bytes, room, few, holds_all, all_done, one_done, found_false, goes_on}
 use Rattle.verifier.proofs.first_false.Statement.{statement}
 use Rattle.verifier.proofs.first_false.Tie as tie
 
@@ -53,9 +53,9 @@ returns c =
     let l = t.before.loop.invariant.1 in
     let last = v.step-forward.new.1.1.1.0 in
     let e = v.step-forward.ensures in (
-      found-false l t.loop-test.true last e.0 e.1 h.record-holds.ensures
+      found_false l t.loop-test.true last e.0 e.1 h.record-holds.ensures
           (not-true h.record-holds.result c.before.before.if1.true) c.finding.ensures,
-      one-done l t.loop-test.true last e.0 e.1,
+      one_done l t.loop-test.true last e.0 e.1,
     )
 
 add-number : tie.Need-overflow-add-number invariant-loop decreases-loop
@@ -68,13 +68,13 @@ add-from : tie.Need-overflow-add-from invariant-loop decreases-loop
 add-from c =
     let t = c.before.before.before.before.before.before.before in
     let l = t.before.loop.invariant.1 in
-    search (rules, room l t.loop-test.true, l.record-size)
+    search (rules, room l t.loop-test.true, l.record_size)
 
 loop-less : tie.Need-loop-smaller invariant-loop decreases-loop
 loop-less c =
     let t = c.before.before.before.before.before.before.before in
     let l = t.before.loop.invariant.1 in
-    omega (arith, t.loop-test.true, room l t.loop-test.true, l.record-size, some_bytes l)
+    omega (arith, t.loop-test.true, room l t.loop-test.true, l.record_size, some_bytes l)
 
 loop-again : tie.Need-loop-preserved invariant-loop decreases-loop
 loop-again c =
@@ -91,7 +91,7 @@ same-length-2 : tie.Need-same-length-2 invariant-loop decreases-loop
 same-length-2 c = c.before.loop.invariant.0
 
 returns-2 : tie.Need-returns-2 invariant-loop decreases-loop
-returns-2 c = (holds-all c.before.loop.invariant.1 c.loop-test.false, all_done c.before.loop.invariant.1 c.loop-test.false)
+returns-2 c = (holds_all c.before.loop.invariant.1 c.loop-test.false, all_done c.before.loop.invariant.1 c.loop-test.false)
 
 pub first-false-spec : {M : Type 1} → statement M
 first-false-spec =

@@ -6,7 +6,7 @@ use lib.ListN.{length-take}
 use lib.Seq.{length-take-le}
 use Rattle.quasigroup.specs.Tables.{width64}
 use Rattle.digest.specs.Step.{step}
-use Rattle.digest.proofs.Absorb.{absorb-none, absorb-few, absorb-many}
+use Rattle.digest.proofs.Absorb.{absorb_none, absorb_few, absorb_many}
 use Rattle.compression64.specs.Pipes.{pipe64}
 use Rattle.wide.proofs.absorb.Statement.{statement}
 use Rattle.wide.proofs.absorb.Tie as tie
@@ -14,13 +14,13 @@ use Rattle.wide.proofs.absorb.Tie as tie
 returns : tie.Need-returns
 returns c =
     let a = c.before.before.before.before.args in
-    absorb-none 128 (lit≤ tt) (step width64) (pipe64 a.p) a.a.now a.s.now c.before.if1.true c.straight.ensures
+    absorb_none 128 (lit≤ tt) (step width64) (pipe64 a.p) a.a.now a.s.now c.before.if1.true c.straight.ensures
 
 returns-2 : tie.Need-returns-2
 returns-2 c =
     let l = c.before.before in
     let a = l.before.before.before.args in
-    let t = absorb-few 128 (lit≤ tt) (step width64) (pipe64 a.p) a.a.now a.s.now (omega arith) in
+    let t = absorb_few 128 (lit≤ tt) (step width64) (pipe64 a.p) a.a.now a.s.now (omega arith) in
     (t.0, c.hold.ensures ∙ t.1)
 
 slice-aggregate-hold : tie.Need-slice-aggregate-hold
@@ -34,7 +34,7 @@ returns-3 c =
     let h = c.before.before.before.before in
     let l = h.before.before in
     let a = l.before.before.before.before.args in
-    absorb-many 128 (lit≤ tt) (step width64) (pipe64 a.p) a.a.now a.s.now (search rules) (search rules)
+    absorb_many 128 (lit≤ tt) (step width64) (pipe64 a.p) a.a.now a.s.now (search rules) (search rules)
     h.hold2.ensures c.before.before.step.ensures c.straight2.ensures
 
 pub absorb-spec : {M : Type 1} → statement M

@@ -1,16 +1,16 @@
-use Rattle.word.proofs.Wrapping.{mul-fits, mul_words}
+use Rattle.word.proofs.Wrapping.{mul_fits, mul_words}
 use Rattle.std.proofs.Common.{rules}
 use Rattle.word.proofs.multiply64.Statement.{statement}
 use Rattle.word.proofs.multiply64.Tie as tie
 
 mul-add64 : tie.Need-overflow-mul-add64
-mul-add64 c = record { fits = mul-fits 32 (search rules) (search rules) }
+mul-add64 c = record { fits = mul_fits 32 (search rules) (search rules) }
 
 mul-add64-2 : tie.Need-overflow-mul-add64-2
-mul-add64-2 c = record { fits = mul-fits 32 (search rules) (search rules) }
+mul-add64-2 c = record { fits = mul_fits 32 (search rules) (search rules) }
 
 mul-add64-3 : tie.Need-overflow-mul-add64-3
-mul-add64-3 c = record { fits = mul-fits 32 (search rules) (search rules) }
+mul-add64-3 c = record { fits = mul_fits 32 (search rules) (search rules) }
 
 returns : tie.Need-returns
 returns c = cc (mul_words 32 c.before.before.args.a c.before.before.args.b)

@@ -1,10 +1,10 @@
-use Rattle.word.proofs.Rotation.{rotr-or}
+use Rattle.word.proofs.Rotation.{rotr_or}
 use Rattle.std.proofs.Common.{rules}
 use Rattle.word.proofs.rotate_right64.Statement.{statement}
 use Rattle.word.proofs.rotate_right64.Tie as tie
 
 returns : tie.Need-returns
-returns c = rotr-or 64 c.args.r c.args.x (search rules) (search rules)
+returns c = rotr_or 64 c.args.r c.args.x (search rules) (search rules)
 
 pub rotate-right64-spec : {M : Type 1} → statement M
 rotate-right64-spec = tie.close (tie.spec

@@ -1,10 +1,10 @@
-use Rattle.quasigroup.specs.Division.{rightDivision}
+use Rattle.quasigroup.specs.Division.{right_division}
 use borrow.Author.Rules.{rules}
 use Rattle.division32.proofs.right.divide.Statement.{statement}
 use Rattle.division32.proofs.right.divide.Tie as tie
 
 returns : tie.Need-returns
-unfolding rightDivision
+unfolding right_division
 returns c = cc
 
 pub divide-spec : {M : Type 1} → statement M

@@ -1,10 +1,10 @@
-use Rattle.quasigroup.specs.Division.{leftDivision}
+use Rattle.quasigroup.specs.Division.{left_division}
 use borrow.Author.Rules.{rules}
 use Rattle.division64.proofs.left.divide.Statement.{statement}
 use Rattle.division64.proofs.left.divide.Tie as tie
 
 returns : tie.Need-returns
-unfolding leftDivision
+unfolding left_division
 returns c = cc
 
 pub divide-spec : {M : Type 1} → statement M
