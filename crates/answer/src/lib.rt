@@ -1,10 +1,12 @@
 // What an operation of the kit answers: a success with its number, or a refusal with an offset.
+#![tactic(auto)]
+
 ghost use Rattle.std.specs.Prelude.{◌≡◌, ◌<◌};
 ghost use Rattle.answer.specs.Number.{refusal_number, number_of, marked_number};
 ghost use Rattle.answer.specs.Refuse.{is_done};
 
 // Why a call is refused. `specs/Number.antt` gives the number of document 01 or 02 for each.
-#[derive(Drop)]
+#[derive(Clone, Copy)]
 pub enum Refusal {
     Size,
     State,
@@ -27,7 +29,7 @@ pub enum Refusal {
 }
 
 // The offset of a refusal is that of the first byte of the first faulty command of a sheet, and 0 for a refusal that has no place.
-#[derive(Drop)]
+#[derive(Clone, Copy)]
 pub enum Answer {
     Done(u64),
     Refused(Refusal, u32),

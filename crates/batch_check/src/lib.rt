@@ -1,4 +1,6 @@
 // The tests of a call that digests many messages: it is refused by number, or answers how many bytes it writes.
+#![tactic(auto)]
+
 ghost use Rattle.std.specs.Prelude.{◌≡◌, cond, leb, length};
 ghost use Rattle.memory.specs.Lists.{total};
 ghost use Rattle.digest.specs.Kind.{known_size, kind_for};

@@ -1,4 +1,6 @@
 // The pipe of the narrow kind and one block's step, on words of 32 bits; and a pipe in lent bytes, a block forward and back.
+#![tactic(auto)]
+
 ghost use Rattle.std.specs.Prelude.{◌≡◌, ◌++◌, ◌≤◌, length, drop};
 ghost use Rattle.quasigroup.specs.Tables.{width32};
 ghost use Rattle.digest.specs.Blocks.{compressed, last_bytes};

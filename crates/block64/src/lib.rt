@@ -1,4 +1,6 @@
 // The pipe of the wide kind and one block's step, on words of 64 bits; and a pipe in lent bytes, a block forward and back.
+#![tactic(auto)]
+
 ghost use Rattle.std.specs.Prelude.{◌≡◌, ◌++◌, ◌≤◌, length, drop};
 ghost use Rattle.quasigroup.specs.Tables.{width64};
 ghost use Rattle.digest.specs.Blocks.{compressed, last_bytes};

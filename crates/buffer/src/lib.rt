@@ -1,4 +1,6 @@
 // The product and both divisions on lent bytes, for a width given as a number: each call tests its arguments and refuses by number.
+#![tactic(auto)]
+
 ghost use Rattle.std.specs.Prelude.{◌≡◌};
 ghost use Rattle.quasigroup.specs.Product.{product};
 ghost use Rattle.quasigroup.specs.Division.{left_division, right_division};

@@ -1,4 +1,6 @@
 // The product and both divisions at width 64 on lent bytes, for a caller that has tested the lengths.
+#![tactic(auto)]
+
 ghost use Rattle.std.specs.Prelude.{◌≡◌, ◌++◌, ◌≤◌, length, drop};
 ghost use Rattle.quasigroup.specs.Product.{product};
 ghost use Rattle.quasigroup.specs.Division.{left_division, right_division};

@@ -1,4 +1,6 @@
 // What holds of a command by itself: its units, and the command that undoes it.
+#![tactic(auto)]
+
 ghost use Rattle.std.specs.Prelude.{◌≡◌};
 ghost use Rattle.sheet.specs.Units.{units};
 ghost use Rattle.sheet.specs.Effect.{undone};

@@ -1,4 +1,6 @@
 // A record held against the state that it should be, both as lent bytes.
+#![tactic(auto)]
+
 ghost use Rattle.std.specs.Prelude.{◌≡◌, true, false, ◌+◌, ◌/◌, ◌≤◌, eqb, length};
 ghost use Rattle.memory.specs.Bytes.{word_at};
 ghost use Rattle.quasigroup.specs.Tables.{known_width};

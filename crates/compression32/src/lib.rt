@@ -1,4 +1,6 @@
 // The pipe on words of 32 bits, and a block forward and back, on values.
+#![tactic(auto)]
+
 ghost use Rattle.std.specs.Prelude.{◌≡◌};
 ghost use Rattle.quasigroup.specs.Tables.{width32};
 ghost use Rattle.digest.specs.Step.{forward};
@@ -11,7 +13,7 @@ use product32::{barred_product, joined, product};
 
 // Words 0 to 7 and words 8 to 15.
 #[repr(C)]
-#[derive(Drop)]
+#[derive(Clone, Copy)]
 pub struct Pipe32 {
     pub first: [u32; 8],
     pub second: [u32; 8],

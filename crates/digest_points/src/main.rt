@@ -1,5 +1,7 @@
 // Runs document 01's points of the digests and 001's printed HMAC values, and says what came out.
 // HMAC is made here, from the digest in one call; the libraries have none.
+#![tactic(auto)]
+
 ghost use Rattle.std.specs.Prelude.{◌<◌, ◌≤◌, length};
 
 use answer::Answer;

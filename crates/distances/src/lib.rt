@@ -1,4 +1,6 @@
 // In how many bits two digests differ, for each record of two: the call tests its arguments and refuses by number.
+#![tactic(auto)]
+
 ghost use Rattle.std.specs.Prelude.{◌≡◌, ◌++◌, ◌+◌, ◌≤◌, length, drop};
 ghost use Rattle.hamming.specs.Distance.{distance};
 ghost use Rattle.memory.specs.Lists.{bytes_at, total};

@@ -1,4 +1,6 @@
 // The two divisions of EDON-R's product of vectors of eight words of 64 bits, as values.
+#![tactic(auto)]
+
 pub mod left;
 pub mod right;
 

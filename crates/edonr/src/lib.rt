@@ -1,5 +1,7 @@
 // What C sees. An answer is one 64-bit number: a success's own number, or 2^32 times the refusal number plus the offset. Feeding and the layouts of records,
 // whose success can pass 2^32, mark a refusal with bit 63 besides.
+#![tactic(auto)]
+
 ghost use Rattle.std.specs.Prelude.{◌≡◌, ◌^◌, length};
 ghost use Rattle.answer.specs.Number.{number_of, marked_number};
 ghost use Rattle.answer.specs.Injective.{Fits};

@@ -1,4 +1,6 @@
 // The effect of one command on lent vectors, at the width that the sheet is read at.
+#![tactic(auto)]
+
 ghost use Rattle.std.specs.Prelude.{◌≡◌, true, ◌*◌, length};
 ghost use Rattle.quasigroup.specs.Tables.{known_width};
 ghost use Rattle.sheet.specs.Read.{place_count};

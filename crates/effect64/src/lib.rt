@@ -1,4 +1,6 @@
 // The effect of a command on vectors in lent bytes, at width 64.
+#![tactic(auto)]
+
 ghost use Rattle.std.specs.Prelude.{◌≡◌, ◌+◌, ◌*◌, ◌<◌, ◌≤◌, length, set};
 ghost use Rattle.quasigroup.specs.Tables.{width64};
 ghost use Rattle.quasigroup.specs.Product.{product};

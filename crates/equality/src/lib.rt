@@ -1,4 +1,6 @@
 // Whether two stretches of bytes are the same.
+#![tactic(auto)]
+
 ghost use Rattle.std.specs.Prelude.{◌≡◌};
 ghost use Rattle.hmac.specs.Calls.{same};
 

@@ -1,5 +1,7 @@
 // Document 02's Paper 14 as a program, run here on three records; tests/flips_test runs it over other files. What stands in a file or reaches the output no
 // contract can say; what is printed for the bytes that were read is the crate `distance_report`'s to say.
+#![tactic(auto)]
+
 use libc::STDOUT_FILENO;
 
 // Prints the report on the records in the file pairs.bin. A file that cannot be opened counts as empty: reading it gives no bytes. One byte more than records

@@ -1,4 +1,6 @@
 // The halves of EDON-R's product of vectors of eight words of 32 bits, and the left half of the barred product, as values.
+#![tactic(auto)]
+
 ghost use Rattle.std.specs.Prelude.{◌≡◌, ◌<◌, slice_index};
 ghost use Rattle.word.specs.Word.{rotl};
 ghost use Rattle.quasigroup.specs.Tables.{left_sums, right_sums, width32};

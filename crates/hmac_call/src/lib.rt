@@ -1,4 +1,6 @@
 // The calls on keyed digests: one makes a tag, the other compares one. Document 02's word for a tag is "mark".
+#![tactic(auto)]
+
 ghost use Rattle.std.specs.Prelude.{◌≡◌, ◌++◌, ◌/◌, ◌≤◌, length, drop};
 ghost use Rattle.digest.specs.Kind.{Known};
 ghost use Rattle.hmac.specs.Hmac.{hmac_for};

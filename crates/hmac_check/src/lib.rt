@@ -1,4 +1,6 @@
 // The tests of the calls that make and compare tags, by numbers alone, and the block length of a size.
+#![tactic(auto)]
+
 ghost use Rattle.std.specs.Prelude.{◌≡◌};
 ghost use Rattle.answer.specs.declared.Answer.TheVariants.{Done};
 ghost use Rattle.hmac.specs.Hmac.{block_for};

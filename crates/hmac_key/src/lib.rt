@@ -1,4 +1,6 @@
 // A key as one block, and that block with a pad.
+#![tactic(auto)]
+
 ghost use Rattle.std.specs.Prelude.{◌≡◌, ◌≤◌, length, take, replicate};
 ghost use Rattle.digest.specs.Refusals.{limit};
 ghost use Rattle.digest.specs.Kind.{Known};

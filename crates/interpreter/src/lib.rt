@@ -1,5 +1,7 @@
 // The interpreter of load sheets: one command done, and the loops that do and undo commands, over lent vectors, at a known width and with bytes for every
 // vector.
+#![tactic(auto)]
+
 ghost use Rattle.std.specs.Prelude.{◌≡◌, true, reverse, ◌*◌, ◌≤◌, length, take};
 ghost use Rattle.quasigroup.specs.Tables.{known_width};
 ghost use Rattle.sheet.specs.Read.{place_count};

@@ -1,1 +1,3 @@
 // Inverse sheets: definitions in specs/, laws in proofs/. There is no code here.
+#![tactic(auto)]
+

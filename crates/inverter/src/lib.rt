@@ -1,4 +1,6 @@
 // The inverse sheet of a load sheet, which document 02 calls the sheet that goes home.
+#![tactic(auto)]
+
 ghost use Rattle.std.specs.Prelude.{◌≡◌, true, ◌≤◌, length};
 ghost use Rattle.answer.specs.declared.Answer.TheVariants.{Done};
 ghost use Rattle.sheet.specs.SheetAnswer.{sheet_answer};

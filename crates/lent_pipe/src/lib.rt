@@ -1,4 +1,6 @@
 // A block forward and back on a pipe in lent bytes, for a width given as a number: each call tests its arguments and refuses by number.
+#![tactic(auto)]
+
 ghost use Rattle.std.specs.Prelude.{◌≡◌};
 ghost use Rattle.invertible.specs.RoundTrip.{Forward, Backward};
 ghost use Rattle.pipe.specs.Call.{step_answer, step_bytes};

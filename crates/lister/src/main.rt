@@ -1,5 +1,7 @@
 // Document 01's lister, run here on document 01's example; tests/lister_test runs it over other files. What stands in a file or reaches the
 // output no contract can say; what is printed for the bytes that were read is the crate `listing`'s to say.
+#![tactic(auto)]
+
 use libc::STDOUT_FILENO;
 
 // Prints the listing of the sheet in the file sheet.bin at width 32. A file that cannot be opened counts as empty: reading it gives no bytes.

@@ -1,4 +1,6 @@
 // Copies of lent bytes. The definitions and laws of words in bytes stand here too, for every width, and those of parts and sums of lists.
+#![tactic(auto)]
+
 ghost use Rattle.std.specs.Prelude.{◌≡◌, ◌++◌, ◌+◌, ◌≤◌, length, drop, take};
 
 // `src` into `dst` from place `at` on; the rest of `dst` stays.

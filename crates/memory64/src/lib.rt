@@ -1,4 +1,6 @@
 // Words of 64 bits and vectors of eight of them in lent bytes, lowest byte first.
+#![tactic(auto)]
+
 ghost use Rattle.std.specs.Prelude.{◌≡◌, ◌++◌, ◌+◌, ◌<◌, ◌≤◌, length, take, drop};
 ghost use Rattle.std.proofs.lemmas.List.Edits.{sets};
 ghost use Rattle.memory.specs.Bytes.{word_at, words_at, bytes, bytes_of};

@@ -1,4 +1,6 @@
 // The narrow kind of hash, of 224 and 256 bits: a hash in progress, and the digest of a whole message.
+#![tactic(auto)]
+
 ghost use Rattle.std.specs.Prelude.{◌≡◌, ◌++◌, ◌+◌, ◌<◌, ◌≤◌, length};
 ghost use Rattle.quasigroup.specs.Tables.{width32};
 ghost use Rattle.digest.specs.Blocks.{compressed, rest, filled};
@@ -15,7 +17,7 @@ use compression32::Pipe32;
 // A hash in progress. Of `waiting` the first `total` modulo 64 bytes are waiting, which is document 01's word: fed, and not yet part of a block.
 // `size` has 64 bits so that C's layout has no padding, and these fields are every byte of the struct.
 #[repr(C)]
-#[derive(Drop)]
+#[derive(Clone, Copy)]
 pub struct Narrow {
     pub size: u64,
     pub pipe: Pipe32,
@@ -23,13 +25,13 @@ pub struct Narrow {
     pub total: u64,
 }
 
-#[derive(Drop)]
+#[derive(Clone, Copy)]
 pub struct Outcome {
     pub answer: Answer,
     pub state: Narrow,
 }
 
-#[derive(Drop)]
+#[derive(Clone, Copy)]
 struct Absorbed {
     pipe: Pipe32,
     waiting: [u8; 64],

@@ -1,4 +1,6 @@
 // The digest of a whole message in one call, for the four sizes.
+#![tactic(auto)]
+
 ghost use Rattle.std.specs.Prelude.{◌≡◌};
 ghost use Rattle.digest.specs.OneCall.{one_call_answer, one_call_out};
 

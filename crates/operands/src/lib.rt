@@ -1,5 +1,7 @@
 // What product and divisions on lent bytes answer, steps of one block and calls on records: decided by the width, the lengths of the operands and the room
 // of the output. Calls that take a sheet test their width here too.
+#![tactic(auto)]
+
 pub mod records;
 pub mod step;
 

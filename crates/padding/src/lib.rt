@@ -1,4 +1,6 @@
 // The end of a padded message, for both kinds: the byte in which it ends, its length in bits, and the last blocks.
+#![tactic(auto)]
+
 ghost use Rattle.std.specs.Prelude.{◌≡◌, ◌++◌, ◌+◌, ◌*◌, ◌^◌, ◌<◌, ◌≤◌, length, take, replicate};
 ghost use Rattle.digest.specs.Padding.{ending, marked};
 

@@ -1,4 +1,6 @@
 // Hashing in pieces as C calls it, by value: each answer is one number, beside the state.
+#![tactic(auto)]
+
 ghost use Rattle.std.specs.Prelude.{◌≡◌};
 ghost use Rattle.answer.specs.Number.{number_of};
 ghost use Rattle.answer.specs.Refuse.{outcome};
@@ -12,13 +14,13 @@ use answer::Answer;
 use narrow::Narrow;
 use wide::Wide;
 
-#[derive(Drop)]
+#[derive(Clone, Copy)]
 pub struct NarrowPiece {
     pub number: u64,
     pub state: Narrow,
 }
 
-#[derive(Drop)]
+#[derive(Clone, Copy)]
 pub struct WidePiece {
     pub number: u64,
     pub state: Wide,

@@ -1,4 +1,6 @@
 // The tests before a run over lent vectors: their length, and for a slice its sheet and where it starts.
+#![tactic(auto)]
+
 ghost use Rattle.std.specs.Prelude.{◌≡◌, ◌||◌, ◌*◌, eqb};
 ghost use Rattle.answer.specs.declared.Answer.TheVariants.{Done};
 ghost use Rattle.answer.specs.declared.Refusal.TheVariants.{Start};

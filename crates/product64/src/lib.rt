@@ -1,4 +1,6 @@
 // EDON-R's product of vectors of eight words of 64 bits, and the barred product, as values.
+#![tactic(auto)]
+
 ghost use Rattle.std.specs.Prelude.{◌≡◌};
 ghost use Rattle.quasigroup.specs.Tables.{width64};
 ghost use Rattle.quasigroup.specs.Vector.{reversed};

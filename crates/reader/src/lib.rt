@@ -1,4 +1,6 @@
 // The code that reads one command of a load sheet.
+#![tactic(auto)]
+
 ghost use Rattle.std.specs.Prelude.{◌≡◌, ◌<◌};
 ghost use Rattle.sheet.specs.Read.{size_of, two_place_command, two_places, one_place_command, one_place, read_at};
 ghost use Rattle.sheet.specs.Read.{got as gotOf};

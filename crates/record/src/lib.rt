@@ -1,4 +1,6 @@
 // One record laid out for the archive, and the way back. It goes by tiles of 128 bytes: `q` words of `k` bytes each.
+#![tactic(auto)]
+
 ghost use Rattle.std.specs.Prelude.{◌≡◌, ◌++◌, ◌*◌, ◌-◌, ◌^◌, ◌≤◌, length, drop};
 ghost use Rattle.shuffle.specs.Transposed.{transposed};
 ghost use Rattle.record.specs.Tiled.{Tiled};

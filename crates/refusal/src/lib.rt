@@ -1,4 +1,6 @@
 // What the operations of a hash answer: every refusal of both kinds, by numbers alone. `small` and `large` are a kind's two sizes.
+#![tactic(auto)]
+
 ghost use Rattle.std.specs.Prelude.{◌≡◌, ◌/◌, ltb};
 ghost use Rattle.digest.specs.Kind.{known_size, kind_for};
 ghost use Rattle.digest.specs.Refusals.{is_size, in_form, opening, feeding, delivering, finishing_bits, digesting};

@@ -1,12 +1,14 @@
 // Recorded runs, held against the run itself: a replay does the run again. Definitions in specs/, laws in proofs/, what a replay answers, and that answer for
 // C.
+#![tactic(auto)]
+
 ghost use Rattle.std.specs.Prelude.{◌≡◌};
 ghost use Rattle.replay.specs.Number.{replay_number, finding_after};
 
 use answer::{Answer, Refusal};
 
 // The first word that differs in a record: the offset of the record's command, the word's place and number, what stands there, and what should.
-#[derive(Drop)]
+#[derive(Clone, Copy)]
 pub struct Finding {
     pub offset: u64,
     pub place: u64,
@@ -16,7 +18,7 @@ pub struct Finding {
 }
 
 // Every record holds; or the first false one is told, with its number from 1; or a refusal, with its offset as in `Answer`.
-#[derive(Drop)]
+#[derive(Clone, Copy)]
 pub enum ReplayAnswer {
     Holds,
     FirstFalse(u64, Finding),

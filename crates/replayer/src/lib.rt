@@ -1,4 +1,6 @@
 // Replays: the records of a run are held against the run itself.
+#![tactic(auto)]
+
 ghost use Rattle.std.specs.Prelude.{◌≡◌, true, length};
 ghost use Rattle.quasigroup.specs.Tables.{known_width};
 ghost use Rattle.shuffle.specs.Shuffle.{record_length};

@@ -1,4 +1,6 @@
 // Runs of a load sheet over lent vectors, forward and backward.
+#![tactic(auto)]
+
 ghost use Rattle.std.specs.Prelude.{◌≡◌, true};
 ghost use Rattle.quasigroup.specs.Tables.{known_width};
 ghost use Rattle.invertible.specs.RoundTrip.{Forward, Backward};

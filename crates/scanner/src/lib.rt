@@ -1,4 +1,6 @@
 // The check of a whole load sheet, command by command.
+#![tactic(auto)]
+
 ghost use Rattle.std.specs.Prelude.{◌≡◌, ◌||◌, ◌≤◌, eqb, length, set};
 ghost use Rattle.std.proofs.lemmas.List.Edits.{sets};
 ghost use Rattle.sheet.specs.Sheet.{scan_from, plan_of};
@@ -9,7 +11,7 @@ use answer::Refusal;
 use sheet::{LONGEST, Read, Summary};
 
 // What the check of a sheet finds, and whether an offset that it was asked for is that of a command before the sheet's end or its first fault.
-#[derive(Drop)]
+#[derive(Clone, Copy)]
 pub struct Checked {
     pub summary: Summary,
     pub starts: bool,

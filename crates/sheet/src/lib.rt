@@ -1,4 +1,6 @@
 // Load sheets: definitions in specs/, laws in proofs/, and the types that definitions speak of. Crate reader has the code that reads.
+#![tactic(auto)]
+
 use answer::Refusal;
 
 // The number of vectors that a sheet's commands work on.
@@ -11,14 +13,14 @@ pub const LONGEST: usize = 4096;
 pub const MOST: usize = 2048;
 
 // The two places of a two-place command: that of the vector that changes, and that of the other operand.
-#[derive(Drop)]
+#[derive(Clone, Copy)]
 pub struct Places {
     pub d: usize,
     pub s: usize,
 }
 
 // A command; the names are document 01's. Kmul and Kdiv hold the place and the offset in the sheet of their vector K.
-#[derive(Drop)]
+#[derive(Clone, Copy)]
 pub enum Command {
     Lmul(Places),
     Rmul(Places),
@@ -31,7 +33,7 @@ pub enum Command {
 }
 
 // A command that was read, the offset behind it, and its units: 1 if it counts as work, and else 0.
-#[derive(Drop)]
+#[derive(Clone, Copy)]
 pub struct Decoded {
     pub command: Command,
     pub next: usize,
@@ -39,7 +41,7 @@ pub struct Decoded {
 }
 
 // What stands at an offset of a sheet: a command, a fault, or the sheet's end.
-#[derive(Drop)]
+#[derive(Clone, Copy)]
 pub enum Read {
     Got(Decoded),
     Fault(Refusal),
@@ -47,7 +49,7 @@ pub enum Read {
 }
 
 // What the check of a whole sheet finds: the number of commands and then their units, or the first fault and its command's offset.
-#[derive(Drop)]
+#[derive(Clone, Copy)]
 pub enum Summary {
     Whole(usize, usize),
     Faulty(Refusal, u32),

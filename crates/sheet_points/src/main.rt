@@ -1,5 +1,7 @@
 // The points on sheets that are run. Document 01's at width 32: a K of 31 bytes and one of 32, 4,097 bytes. Document 02's, Paper 3: one flip, and
 // 2,048 of them, which count nothing. Then, at both widths, a sheet with every command, forward and backward again: of its eight, six count.
+#![tactic(auto)]
+
 ghost use Rattle.std.specs.Prelude.{◌≡◌, length};
 
 use answer::Answer;

@@ -1,4 +1,6 @@
 // Records laid out for the archive, a byte shuffle as compression filters call it, and the way back: each call tests its arguments and refuses by number.
+#![tactic(auto)]
+
 ghost use Rattle.std.specs.Prelude.{◌≡◌, true, ◌++◌, ◌%◌, ◌^◌, ◌≤◌, length, drop};
 ghost use Rattle.answer.specs.Injective.{Fits};
 ghost use Rattle.quasigroup.specs.Tables.{known_width};

@@ -1,4 +1,6 @@
 // Slices of a load sheet over lent vectors: forward runs from an offset on, of as many commands as their budget has.
+#![tactic(auto)]
+
 ghost use Rattle.std.specs.Prelude.{◌≡◌, true};
 ghost use Rattle.quasigroup.specs.Tables.{known_width};
 ghost use Rattle.slice.specs.Slice.{slice_answer, slice_bytes};

@@ -1,4 +1,6 @@
 // The loop of a slice: commands from an offset on, counted against a budget. (Crate interpreter has the loops of whole runs.)
+#![tactic(auto)]
+
 ghost use Rattle.std.specs.Prelude.{◌≡◌, true, ◌*◌, length};
 ghost use Rattle.quasigroup.specs.Tables.{known_width};
 ghost use Rattle.sheet.specs.Read.{place_count};
@@ -14,7 +16,7 @@ fn from_u16(x: u16) -> usize
 }
 
 // How far a forward run came: the offset that it reached, and the units of the commands done.
-#[derive(Drop)]
+#[derive(Clone, Copy)]
 pub struct Progress {
     pub offset: usize,
     pub units: usize,

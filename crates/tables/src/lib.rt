@@ -1,5 +1,7 @@
 // The constant tables: rotation amounts, the squares as lists of the places of their ones, their inverses, and the starting pipes.
 // Where code reads a table it reads the constant, which is folded into it. The function beside each constant says what the table is.
+#![tactic(auto)]
+
 ghost use Rattle.std.specs.Prelude.{◌≡◌, [], ◌∷◌, map};
 ghost use Rattle.quasigroup.specs.Tables.{left_sums, right_sums, amounts};
 ghost use Rattle.quasigroup.specs.Product.{others};

@@ -1,5 +1,7 @@
 // Text in a lent buffer, one piece behind the other. Where the buffer ends bytes are dropped and places are counted on, so that the length of
 // the whole text is told however short the buffer is. No text ends behind place 1,048,576: so no sum of places overflows.
+#![tactic(auto)]
+
 ghost use Rattle.std.specs.Prelude.{◌≡◌, [], ◌∷◌, ◌+◌, ◌<◌, ◌≤◌, length, set};
 ghost use Rattle.text.specs.Decimal.{decimal, spaced};
 ghost use Rattle.text.specs.Label.{labelled, refused};

@@ -1,5 +1,7 @@
 // A tile: 128 bytes of a record, by value. It is loaded from rows that stand apart, transposed, and stored to rows that stand apart. Rows
 // are moved side by side, a byte of each and then the next, so that the compiler takes sixteen bytes of every row together.
+#![tactic(auto)]
+
 ghost use Rattle.std.specs.Prelude.{◌≡◌, ◌*◌, ◌-◌, ◌^◌, ◌≤◌, length};
 ghost use Rattle.shuffle.specs.Transposed.{transposed};
 ghost use Rattle.tile.specs.Copy.{Inside, zeros, strided_copy, rows_copy};

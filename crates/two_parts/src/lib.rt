@@ -1,4 +1,6 @@
 // The digest of a message that stands in two parts: a hash in progress is fed the one and then the other, so that neither is copied.
+#![tactic(auto)]
+
 ghost use Rattle.std.specs.Prelude.{◌≡◌, ◌++◌};
 ghost use Rattle.digest.specs.Kind.{narrow_kind, wide_kind};
 ghost use Rattle.digest.specs.OneCall.{digest_answer, digest_out, one_call_answer, one_call_out};

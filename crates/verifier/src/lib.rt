@@ -1,4 +1,6 @@
 // The loop over records: the commands of a run are done again, and each record is held against the state that they lead to.
+#![tactic(auto)]
+
 ghost use Rattle.std.specs.Prelude.{◌≡◌, true, ◌%◌, length};
 ghost use Rattle.quasigroup.specs.Tables.{known_width};
 ghost use Rattle.sheet.specs.Run.{vectors_in};

@@ -1,4 +1,6 @@
 // The wide kind of hash, of 384 and 512 bits: a hash in progress, and the digest of a whole message.
+#![tactic(auto)]
+
 ghost use Rattle.std.specs.Prelude.{◌≡◌, ◌++◌, ◌+◌, ◌<◌, ◌≤◌, length};
 ghost use Rattle.quasigroup.specs.Tables.{width64};
 ghost use Rattle.digest.specs.Blocks.{compressed, rest, filled};
@@ -15,7 +17,7 @@ use compression64::Pipe64;
 // A hash in progress. Of `waiting` the first `total` modulo 128 bytes are waiting, which is document 01's word: fed, and not yet part of a block.
 // `size` has 64 bits so that C's layout has no padding, and these fields are every byte of the struct.
 #[repr(C)]
-#[derive(Drop)]
+#[derive(Clone, Copy)]
 pub struct Wide {
     pub size: u64,
     pub pipe: Pipe64,
@@ -23,13 +25,13 @@ pub struct Wide {
     pub total: u64,
 }
 
-#[derive(Drop)]
+#[derive(Clone, Copy)]
 pub struct Outcome {
     pub answer: Answer,
     pub state: Wide,
 }
 
-#[derive(Drop)]
+#[derive(Clone, Copy)]
 struct Absorbed {
     pipe: Pipe64,
     waiting: [u8; 128],

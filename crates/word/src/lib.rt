@@ -1,4 +1,6 @@
 // Words of 32 and of 64 bits: sums, differences and products that wrap, inverses of odd words, rotations.
+#![tactic(auto)]
+
 ghost use Rattle.std.specs.Prelude.{◌≡◌, ◌-◌, ◌%◌, ◌<◌};
 ghost use Rattle.word.specs.Word.{plus, minus, times, newton, inverse, rotl};
 

@@ -1,0 +1,37 @@
+use Prim.Native.Nat.{◌-◌}
+use native.Mathlib.Omega.{arith}
+use borrow.Author.Rules.{rules}
+use lib.ListN.{length}
+use Rattle.batch.proofs.Progress.{Progress, begin, starts, end, within, inside, next}
+use Rattle.batch_call.proofs.digest_each.Goals as goal
+
+pub loop-k-init : goal.loop-k-init
+loop-k-init c =
+    let a = c.args in
+    begin a.size a.joined.now a.lengths.now a.out.now c.requires.0 c.requires.1 c.requires.2
+
+pub overflow_add-to : goal.overflow_add-to
+overflow_add-to c = omega (arith, within c.loop-k.invariant, c.byte_count.ensures.upper_bound, c.well_formed)
+
+pub overflow_mul-at : goal.overflow_mul-at
+overflow_mul-at c = omega (arith, starts c.loop-k.invariant, c.loop-k.invariant.same, c.well_formed)
+
+pub slice_bounds-digest-end : goal.slice_bounds-digest-end
+slice_bounds-digest-end c = inside c.loop-k.invariant c.loop-k-test.true c.byte_count.ensures.value
+
+pub slice_bounds-digest-count-in-loop-k : goal.slice_bounds-digest-count-in-loop-k
+slice_bounds-digest-count-in-loop-k c = omega (arith, starts c.loop-k.invariant)
+
+pub slice_bounds-digest-start-in-loop-k : goal.slice_bounds-digest-start-in-loop-k
+slice_bounds-digest-start-in-loop-k c = omega (arith, starts c.loop-k.invariant)
+
+pub loop-k-preserved : goal.loop-k-preserved
+loop-k-preserved c =
+    let e = c.byte_count.ensures in
+    next c.loop-k.invariant c.loop-k-test.true e.0 e.1 _ c.digest.ensures.out_after
+
+pub shape_of-out : goal.shape_of-out
+shape_of-out c = c.loop-k.invariant.same
+
+pub returns : goal.returns
+returns c = end c.loop-k.invariant c.loop-k-test.false

@@ -1,0 +1,12 @@
+use borrow.Author.Rules.{rules}
+use Rattle.quasigroup.specs.Tables.{width64}
+use Rattle.invertible.specs.RoundTrip.{Forward}
+use Rattle.digest.specs.Step.{step}
+use Rattle.pipe.proofs.Call.{replaced}
+use Rattle.block64.proofs.step_in.Goals as goal
+
+pub returns : goal.returns
+unfolding step
+returns c =
+    let a = c.args in
+    replaced width64 Forward a.m.now a.b.now c.load-p.ensures c.step.ensures c.store.ensures

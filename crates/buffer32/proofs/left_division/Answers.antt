@@ -1,0 +1,13 @@
+use Rattle.quasigroup.specs.Division.{left_division}
+use Rattle.quasigroup.specs.Tables.{width32}
+use Rattle.quasigroup.proofs.Quasigroup.{left_from_halves}
+use Rattle.operands.proofs.Stored.{stored}
+use borrow.Author.Rules.{rules}
+use Rattle.buffer32.proofs.left_division.Goals as goal
+
+pub returns : goal.returns
+returns c =
+    let p = c.args in
+    stored left_division 32 p.a.now p.b.now p.out.now c.load_vector.ensures c.load_vector-2.ensures
+    (left_from_halves width32 c.load_vector.result c.load_vector-2.result c.left_half-g.ensures c.separated-z.ensures c.right_undone.ensures)
+    c.store_vector.ensures

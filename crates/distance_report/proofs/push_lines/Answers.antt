@@ -1,0 +1,30 @@
+use mathlib.Core.Path.{◌≡◌, refl}
+use Prim.Native.Nat.{◌-◌, ◌*◌, ◌≤◌}
+use native.Mathlib.Omega.{arith}
+use borrow.Author.Rules.{rules}
+use lib.ListN.{length}
+use Rattle.text.proofs.Partly.{Partly, none_yet}
+use Rattle.distance_report.specs.Report.{lines}
+use Rattle.distance_report.proofs.Lines.{rest, lines_more, lines_end}
+use Rattle.distance_report.proofs.push_lines.Goals as goal
+
+pub loop-k-init : goal.loop-k-init
+loop-k-init c = (c.requires, omega arith, omega arith, refl, none_yet c.args.out.now 0 (lines 1 c.args.counts.now))
+
+pub loop-k-preserved : goal.loop-k-preserved
+loop-k-preserved c =
+    let q = c.push_line-next.ensures in
+    let i = c.loop-k.invariant in
+    let counts = c.args.counts.now in
+    (i.0, omega arith, omega (arith, q.1), search rules, lines_more counts c.loop-k.k i.4 c.push_line-next.new.0 c.push_line-next.result (omega arith) q.0)
+
+pub shape_of-out : goal.shape_of-out
+shape_of-out c = c.loop-k.invariant.3
+
+pub returns : goal.returns
+returns c =
+    let i = c.loop-k.invariant in
+    record {
+      pushed = lines_end c.args.counts.now c.loop-k.k i.4 c.loop-k-test.false;
+      upper_bound = omega arith;
+    }

@@ -1,0 +1,15 @@
+use mathlib.Core.Path.{◌≡◌, refl}
+use Prim.Native.Nat.{◌-◌, ◌*◌, ◌≤◌}
+use native.Mathlib.Omega.{arith}
+use borrow.Author.Rules.{rules}
+use lib.ListN.{length}
+use Rattle.text.proofs.Partly.{Partly, none_yet}
+use Rattle.distance_report.specs.Report.{lines}
+use Rattle.distance_report.proofs.Lines.{rest, lines_more, lines_end}
+use Rattle.distance_report.proofs.push_lines.Given as goal
+
+abbrev pub invariant-loop-k : goal.invariant-loop-k
+invariant-loop-k l = (length l.counts ≤ 1024) × (l.k ≤ length l.counts) × (l.next ≤ 42 * l.k) × (length l.out ≡ length l.initial.out) × Partly l.initial.out 0 (lines 1 l.counts) l.out l.next (rest l.counts l.k)
+
+abbrev pub decreases-loop-k : goal.decreases-loop-k
+decreases-loop-k l = length l.counts - l.k

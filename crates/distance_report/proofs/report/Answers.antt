@@ -1,0 +1,49 @@
+use mathlib.Core.Path.{sym, ◌∙◌}
+use native.Mathlib.Omega.{arith}
+use borrow.Author.Rules.{rules}
+use Rattle.text.specs.Pushed.{Pushed}
+use Rattle.text.proofs.Pushed.{then, finished}
+use Rattle.distance_report.specs.Report.{total_line}
+use Rattle.distance_report.proofs.Reported.{within, taken, few, reported, reported_refusal}
+use Rattle.distance_report.proofs.report.Goals as goal
+
+pub slice_bounds-counts-end : goal.slice_bounds-counts-end
+slice_bounds-counts-end c =
+    let a = c.args in
+    within a.records.now _ _ (sym c.in-Done.is ∙ c.flipped_bits.ensures.value) c.flipped_bits.ensures.counts_after
+
+pub slice_bounds-push_lines-end : goal.slice_bounds-push_lines-end
+slice_bounds-push_lines-end c =
+    let a = c.args in
+    taken a.records.now _ _ (sym c.in-Done.is ∙ c.flipped_bits.ensures.value) c.flipped_bits.ensures.counts_after
+
+pub push_lines-at-requires : goal.push_lines-at-requires
+push_lines-at-requires c =
+    let a = c.args in
+    few a.records.now _ _ (sym c.in-Done.is ∙ c.flipped_bits.ensures.value) c.flipped_bits.ensures.counts_after
+
+pub returns-in-Done : goal.returns-in-Done
+returns-in-Done c =
+    let a = c.args in
+    let end = total_line c.in-Done.sum in
+    let last : Pushed c.push_lines-at.new.0 c.push_lines-at.result end c.push_total.new.0 c.push_total.result = c.push_total.ensures.pushed in
+    let f = finished (then c.push_lines-at.ensures.pushed last)
+    (reported a.records.now _ _ (sym c.in-Done.is ∙ c.flipped_bits.ensures.value) c.flipped_bits.ensures.counts_after) in
+    let both = (f.0, (f.1, omega (arith, c.push_lines-at.ensures.upper_bound, c.push_total.ensures.upper_bound))) in
+    record {
+      out_after = both.0;
+      value = both.1;
+      upper_bound = both.2;
+    }
+
+pub returns-in-Refused : goal.returns-in-Refused
+returns-in-Refused c =
+    let a = c.args in
+    let f = finished c.push_refusal.ensures.pushed
+    (reported_refusal a.records.now c.in-Refused.r c.in-Refused.field-1 (sym c.in-Refused.is ∙ c.flipped_bits.ensures.value)) in
+    let both = (f.0, (f.1, omega (arith, c.push_refusal.ensures.upper_bound))) in
+    record {
+      out_after = both.0;
+      value = both.1;
+      upper_bound = both.2;
+    }

@@ -1,0 +1,36 @@
+use borrow.Author.Rules.{rules}
+use Rattle.hamming.proofs.Ended.{ends_not_whole, ends_short, asked, ends_counted}
+use Rattle.distances.proofs.flipped_bits.Goals as goal
+
+pub returns-then-not-whole : goal.returns-then-not-whole
+returns-then-not-whole c =
+    let a = c.args in
+    let both = ends_not_whole a.records.now a.counts.now c.whole_pairs-whole.ensures c.if-not-whole.true in
+    record {
+      value = both.0;
+      counts_after = both.1;
+    }
+
+pub returns-then-not-room : goal.returns-then-not-room
+returns-then-not-room c =
+    let a = c.args in
+    let both = ends_short a.records.now a.counts.now c.whole_pairs-whole.ensures c.if-not-whole.false c.if-not-room.true in
+    record {
+      value = both.0;
+      counts_after = both.1;
+    }
+
+pub count_records-requires : goal.count_records-requires
+count_records-requires c =
+    let a = c.args in
+    asked a.records.now a.counts.now c.whole_pairs-whole.ensures c.if-not-whole.false c.if-not-room.false
+
+pub returns : goal.returns
+returns c =
+    let a = c.args in
+    let e = c.count_records.ensures in
+    let both = ends_counted a.records.now a.counts.now c.whole_pairs-whole.ensures c.if-not-whole.false c.if-not-room.false e.0 e.1 in
+    record {
+      value = both.0;
+      counts_after = both.1;
+    }

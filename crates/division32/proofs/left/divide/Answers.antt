@@ -1,0 +1,7 @@
+use Rattle.quasigroup.specs.Division.{left_division}
+use borrow.Author.Rules.{rules}
+use Rattle.division32.proofs.left.divide.Goals as goal
+
+pub returns : goal.returns
+unfolding left_division
+returns c = cc

@@ -1,0 +1,18 @@
+use mathlib.Core.Path.{◌∙◌}
+use Rattle.memory.proofs.Eight.{eight}
+use Rattle.halves.proofs.Balance.{unsummed, left_rows}
+use borrow.Author.Rules.{rules}
+use Rattle.division32.proofs.left_unsummed.Goals as goal
+
+pub returns : goal.returns
+returns c =
+    eight
+    c.unsummed.ensures
+    c.unsummed-2.ensures
+    c.unsummed-3.ensures
+    c.unsummed-4.ensures
+    c.unsummed-5.ensures
+    c.unsummed-6.ensures
+    c.unsummed-7.ensures
+    c.unsummed-8.ensures
+    ∙ unsummed 32 c.args.s (search rules) left_rows _ c.two_fifths-u.ensures

@@ -1,0 +1,20 @@
+use mathlib.Core.Path.{◌∙◌}
+use Rattle.quasigroup.specs.Tables.{width64}
+use Rattle.memory.proofs.Eight.{eight}
+use Rattle.halves.proofs.Places.{unfilled}
+use borrow.Author.Rules.{rules}
+use Rattle.division64.proofs.left_unrotated.Goals as goal
+
+pub returns : goal.returns
+returns c =
+    let z = c.args.z in
+    eight
+    c.unrotated.ensures
+    c.unrotated-2.ensures
+    c.unrotated-3.ensures
+    c.unrotated-4.ensures
+    c.unrotated-5.ensures
+    c.unrotated-6.ensures
+    c.unrotated-7.ensures
+    c.unrotated-8.ensures
+    ∙ unfilled 64 0xaaaa_aaaa_aaaa_aaaa width64.left_amounts z

@@ -1,0 +1,16 @@
+use mathlib.Core.Path.{ap, subst, ◌∙◌}
+use Prim.Native.Nat.{◌^◌}
+use Rattle.answer.specs.Number.{marked_number}
+use Rattle.answer.specs.Injective.{Fits}
+use borrow.Author.Rules.{rules}
+use Rattle.edonr.proofs.edonr_unshuffle.Goals as goal
+
+pub returns : goal.returns
+returns c =
+    let e = c.unshuffle.ensures in
+    let both = (c.marked_number.ensures ∙ ap marked_number e.0, (e.1.0, subst (Fits (2 ^ 63)) e.0 e.1.1)) in
+    record {
+      value = both.0;
+      out_after = both.1;
+      fits = both.2;
+    }

@@ -1,0 +1,13 @@
+use borrow.Author.Rules.{rules}
+use Rattle.quasigroup.specs.Tables.{width32}
+use Rattle.quasigroup.specs.Division.{right_division}
+use Rattle.quasigroup.proofs.Quasigroup.{right_from_halves}
+use Rattle.sheet.specs.Run.{vectors_in}
+use Rattle.sheet.proofs.Parts.{changed_by}
+use Rattle.effect32.proofs.divide_right.Goals as goal
+
+pub returns : goal.returns
+returns c =
+    let a = c.args in
+    changed_by (vectors_in 32 a.vectors.now) a.d (right_division width32) c.put.ensures
+    (right_from_halves width32 _ _ c.right_half.ensures c.separated-z.ensures c.left_undone.ensures) c.get-b.ensures c.get-a.ensures

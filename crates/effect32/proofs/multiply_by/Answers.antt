@@ -1,0 +1,14 @@
+use borrow.Author.Rules.{rules}
+use Rattle.quasigroup.specs.Tables.{width32}
+use Rattle.quasigroup.specs.Product.{product}
+use Rattle.quasigroup.proofs.Quasigroup.{from_halves}
+use Rattle.sheet.specs.Run.{vectors_in}
+use Rattle.sheet.proofs.Parts.{changed_by}
+use Rattle.effect32.proofs.multiply_by.Goals as goal
+
+pub returns : goal.returns
+returns c =
+    let a = c.args in
+    changed_by (vectors_in 32 a.vectors.now) a.d (product width32) c.put.ensures
+    (from_halves width32 _ _ c.left_half.ensures c.right_half.ensures c.joined.ensures)
+    c.vector_at-x.ensures c.get-y.ensures

@@ -1,0 +1,16 @@
+use Rattle.quasigroup.specs.Tables.{width64, right_sums}
+use Rattle.halves.proofs.Places.{eight_sums}
+use Rattle.std.proofs.Common.{rules}
+use Rattle.half64.proofs.right_sums.Goals as goal
+
+pub returns : goal.returns
+returns c =
+    eight_sums 64 width64.right_constant width64.right_amounts right_sums c.args.v
+    c.rotated_sum.ensures
+    c.rotated_sum-2.ensures
+    c.rotated_sum-3.ensures
+    c.rotated_sum-4.ensures
+    c.rotated_sum-5.ensures
+    c.rotated_sum-6.ensures
+    c.rotated_sum-7.ensures
+    c.rotated_sum-8.ensures

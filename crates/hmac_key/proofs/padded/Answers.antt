@@ -1,0 +1,22 @@
+use mathlib.Core.Path.{◌≡◌, ap, ◌∙◌}
+use Prim.Native.Nat.{ℕ, ◌-◌}
+use native.Mathlib.Omega.{arith}
+use borrow.Author.Rules.{rules}
+use lib.ListN.{length, replicate}
+use Rattle.hmac.specs.Hmac.{xored}
+use Rattle.hmac.proofs.Padded.{Padded, none_padded, one_padded, all_padded}
+use Rattle.hmac_key.proofs.padded.Goals as goal
+
+pub loop-i-init : goal.loop-i-init
+loop-i-init c = none_padded c.args.pad c.args.t1
+
+pub loop-i-preserved : goal.loop-i-preserved
+loop-i-preserved c =
+    let l : length c.args.t1 ≡ 128 = search rules in
+    one_padded c.args.pad c.loop-i.invariant (omega (arith, l, c.loop-i-test.true))
+
+pub returns : goal.returns
+returns c =
+    let a = c.args in
+    let l : length a.t1 ≡ 128 = search rules in
+    all_padded a.pad c.loop-i.invariant (omega (arith, l, c.loop-i-test.false)) ∙ ap (λ (n : ℕ). xored a.t1 (replicate n a.pad)) l

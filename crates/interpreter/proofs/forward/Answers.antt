@@ -1,0 +1,60 @@
+use mathlib.Core.Path.{◌≡◌, refl, sym, ◌∙◌}
+use mathlib.Core.Bool.{true}
+use Prim.Native.Nat.{◌-◌, ◌*◌, ◌≤◌}
+use native.Mathlib.Omega.{arith}
+use borrow.Author.Rules.{rules}
+use lib.ListN.{length}
+use Rattle.quasigroup.specs.Tables.{known_width}
+use Rattle.sheet.specs.Read.{place_count}
+use Rattle.sheet.specs.Sheet.{scan_from}
+use Rattle.invertible.specs.RoundTrip.{Forward}
+use Rattle.sheet.specs.Run.{steps, vectors_in}
+use Rattle.sheet.proofs.Sound.{got_sound}
+use Rattle.interpreter.proofs.Loops.{forward_more, forward_fault, forward_end}
+use Rattle.interpreter.proofs.forward.Goals as goal
+
+pub loop-d-init : goal.loop-d-init
+loop-d-init c = (c.requires.0, c.requires.1, refl, omega arith, refl)
+
+pub apply-requires : goal.apply-requires
+apply-requires c =
+    let a = c.args in
+    let e = sym c.read_command.ensures ∙ c.in-Got.is in
+    (c.loop-d.invariant.0, c.loop-d.invariant.1, (got_sound a.width a.sheet.now c.loop-d.at e).sound)
+
+pub loop-d-smaller : goal.loop-d-smaller
+loop-d-smaller c =
+    let a = c.args in
+    let h = got_sound a.width a.sheet.now c.loop-d.at (sym c.read_command.ensures ∙ c.in-Got.is) in
+    omega (arith, h.on, h.within)
+
+pub loop-d-preserved : goal.loop-d-preserved
+loop-d-preserved c =
+    let a = c.args in
+    let e = sym c.read_command.ensures ∙ c.in-Got.is in
+    let h = got_sound a.width a.sheet.now c.loop-d.at e in (
+      c.loop-d.invariant.0,
+      search rules,
+      search rules,
+      h.within,
+      forward_more a.width a.sheet.now c.loop-d.at (vectors_in a.width c.loop-d.vectors) c.loop-d.invariant.4 c.in-Got.d e
+          c.apply.ensures,
+    )
+
+pub shape_of-vectors-in-Fault : goal.shape_of-vectors-in-Fault
+shape_of-vectors-in-Fault c = c.loop-d.invariant.2
+
+pub returns-in-Fault : goal.returns-in-Fault
+returns-in-Fault c =
+    let a = c.args in
+    forward_fault a.width a.sheet.now c.loop-d.at (vectors_in a.width c.loop-d.vectors) c.loop-d.invariant.4
+    c.in-Fault.field-0 (sym c.read_command.ensures ∙ c.in-Fault.is)
+
+pub shape_of-vectors-in-End : goal.shape_of-vectors-in-End
+shape_of-vectors-in-End c = c.loop-d.invariant.2
+
+pub returns-in-End : goal.returns-in-End
+returns-in-End c =
+    let a = c.args in
+    forward_end a.width a.sheet.now c.loop-d.at (vectors_in a.width c.loop-d.vectors) c.loop-d.invariant.4
+    (sym c.read_command.ensures ∙ c.in-End.is)

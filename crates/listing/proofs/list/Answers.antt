@@ -1,0 +1,34 @@
+use mathlib.Core.Path.{sym, ◌∙◌}
+use native.Mathlib.Omega.{arith}
+use borrow.Author.Rules.{rules}
+use Rattle.sheet.proofs.Checked.{short}
+use Rattle.text.proofs.Pushed.{then, finished}
+use Rattle.listing.proofs.Lines.{listed_whole, listed_faulty}
+use Rattle.listing.proofs.list.Goals as goal
+
+pub push_lines-at-requires : goal.push_lines-at-requires
+push_lines-at-requires c =
+    let a = c.args in
+    short a.width a.sheet.now (sym c.in-Whole.is ∙ c.check.ensures.value)
+
+pub returns-in-Whole : goal.returns-in-Whole
+returns-in-Whole c =
+    let a = c.args in
+    let f = finished (then c.push_lines-at.ensures.fact c.push_end.ensures.pushed) (listed_whole a.width a.sheet.now (sym c.in-Whole.is ∙ c.check.ensures.value)) in
+    let both = (f.0, (f.1, omega (arith, c.push_lines-at.ensures.upper_bound, c.push_end.ensures.upper_bound))) in
+    record {
+      out_after = both.0;
+      value = both.1;
+      upper_bound = both.2;
+    }
+
+pub returns-in-Faulty : goal.returns-in-Faulty
+returns-in-Faulty c =
+    let a = c.args in
+    let f = finished c.push_refused.ensures.pushed (listed_faulty a.width a.sheet.now c.in-Faulty.r c.in-Faulty.at (sym c.in-Faulty.is ∙ c.check.ensures.value)) in
+    let both = (f.0, (f.1, omega (arith, c.push_refused.ensures.upper_bound))) in
+    record {
+      out_after = both.0;
+      value = both.1;
+      upper_bound = both.2;
+    }

@@ -1,0 +1,50 @@
+use mathlib.Core.Path.{◌≡◌, refl, sym, ◌∙◌}
+use Prim.Native.Nat.{◌-◌, ◌*◌, ◌≤◌}
+use native.Mathlib.Omega.{arith}
+use borrow.Author.Rules.{rules}
+use lib.ListN.{length}
+use Rattle.sheet.proofs.Sound.{got_sound}
+use Rattle.text.proofs.Partly.{Partly, none_yet}
+use Rattle.listing.proofs.Lines.{rest, lines_more, lines_fault, lines_end}
+use Rattle.listing.proofs.push_lines.Goals as goal
+
+pub loop-d-init : goal.loop-d-init
+loop-d-init c = (c.requires, omega arith, omega arith, refl, none_yet c.args.out.now 0 (rest c.args.width c.args.sheet.now 0))
+
+pub loop-d-smaller : goal.loop-d-smaller
+loop-d-smaller c =
+    let a = c.args in
+    let h = got_sound a.width a.sheet.now c.loop-d.at (sym c.read_command.ensures ∙ c.in-Got.is) in
+    omega (arith, h.on, h.within)
+
+pub loop-d-preserved : goal.loop-d-preserved
+loop-d-preserved c =
+    let a = c.args in
+    let e = sym c.read_command.ensures ∙ c.in-Got.is in
+    let h = got_sound a.width a.sheet.now c.loop-d.at e in
+    let q = c.push_line-next.ensures in
+    let m = lines_more a.width a.sheet.now c.loop-d.at c.loop-d.invariant.4 c.in-Got.d e q.0 in
+    (c.loop-d.invariant.0, h.within, omega (arith, h.on, q.1), search rules, m)
+
+pub shape_of-out-in-Fault : goal.shape_of-out-in-Fault
+shape_of-out-in-Fault c = c.loop-d.invariant.3
+
+pub returns-in-Fault : goal.returns-in-Fault
+returns-in-Fault c =
+    let a = c.args in
+    record {
+      fact = lines_fault a.width a.sheet.now c.loop-d.at c.loop-d.invariant.4 c.in-Fault.field-0
+          (sym c.read_command.ensures ∙ c.in-Fault.is);
+      upper_bound = omega arith;
+    }
+
+pub shape_of-out-in-End : goal.shape_of-out-in-End
+shape_of-out-in-End c = c.loop-d.invariant.3
+
+pub returns-in-End : goal.returns-in-End
+returns-in-End c =
+    let a = c.args in
+    record {
+      fact = lines_end a.width a.sheet.now c.loop-d.at c.loop-d.invariant.4 (sym c.read_command.ensures ∙ c.in-End.is);
+      upper_bound = omega arith;
+    }

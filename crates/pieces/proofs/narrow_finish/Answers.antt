@@ -1,0 +1,13 @@
+use mathlib.Core.Path.{ap, ◌∙◌}
+use borrow.Author.Rules.{rules}
+use Rattle.answer.specs.Number.{number_of}
+use Rattle.digest.specs.Kind.{narrow_kind}
+use Rattle.digest.proofs.BitFinishing.{no_bits}
+use Rattle.narrow.specs.Outcomes.{hash_of}
+use Rattle.pieces.proofs.narrow_finish.Goals as goal
+
+pub returns : goal.returns
+returns c =
+    let a = c.args in
+    let none = no_bits narrow_kind (hash_of a.hash) 0 a.out.now in
+    (c.narrow_finish_bits.ensures.0 ∙ ap number_of none.0, c.narrow_finish_bits.ensures.1 ∙ none.1)

@@ -1,0 +1,20 @@
+use mathlib.Core.Path.{ap, ◌∙◌}
+use borrow.Author.Rules.{rules}
+use Rattle.answer.specs.Number.{number_of}
+use Rattle.answer.specs.Refuse.{outcome}
+use Rattle.answer.proofs.Refuse.{outcome_again}
+use Rattle.digest.specs.Kind.{narrow_kind}
+use Rattle.digest.specs.State.{open_answer, zeros, opened as started}
+use Rattle.narrow.specs.declared.Outcome.{Outcome}
+use Rattle.narrow.specs.Outcomes.{narrow_of, opened}
+use Rattle.pieces.proofs.narrow_open.Goals as goal
+
+pub returns : goal.returns
+unfolding opened
+returns c =
+    let a = c.args in
+    let o = c.«open».ensures in
+    let n = c.number-number.ensures ∙ ap (λ (o : Outcome). number_of o.answer) o in
+    let s = c.narrow_outcome-state.ensures ∙ ap (λ (o : Outcome). outcome o.answer o.state a.hash) o
+    ∙ outcome_again (open_answer narrow_kind a.size) narrow_of (started narrow_kind a.size) (zeros narrow_kind) a.hash in
+    λ i. record { number = n i; state = s i }

@@ -1,0 +1,10 @@
+use mathlib.Core.Path.{sym, ap}
+use borrow.Author.Rules.{rules}
+use Rattle.sheet.specs.Work.{found_answer}
+use Rattle.precheck.proofs.sheet_answer.Goals as goal
+
+pub returns-in-Whole : goal.returns-in-Whole
+returns-in-Whole c = sym (ap found_answer c.in-Whole.is)
+
+pub returns-in-Faulty : goal.returns-in-Faulty
+returns-in-Faulty c = sym (ap found_answer c.in-Faulty.is)

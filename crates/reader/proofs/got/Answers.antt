@@ -1,0 +1,5 @@
+use borrow.Author.Rules.{rules}
+use Rattle.reader.proofs.got.Goals as goal
+
+pub returns : goal.returns
+returns c = rw c.units_of.ensures

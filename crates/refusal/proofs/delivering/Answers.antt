@@ -1,0 +1,10 @@
+use borrow.Author.Rules.{rules}
+use borrow.Author.Tests.{ltb-true, ltb-false, le-leb, lt-leb}
+use Rattle.answer.proofs.Tests.{goes_on, stops}
+use Rattle.refusal.proofs.delivering.Goals as goal
+
+pub returns-then-not-is_short : goal.returns-then-not-is_short
+returns-then-not-is_short c = rw (le-leb _ _ (ltb-false _ _ (stops c.is_short.ensures c.if-not-is_short.true)))
+
+pub returns : goal.returns
+returns c = rw (lt-leb _ _ (ltb-true _ _ (goes_on c.is_short.ensures c.if-not-is_short.false)))

@@ -1,0 +1,29 @@
+use borrow.Author.Rules.{rules}
+use Rattle.invertible.specs.RoundTrip.{Forward}
+use Rattle.sheet.proofs.Ran.{width_refused}
+use Rattle.run.proofs.run_forward.Goals as goal
+
+pub returns-then-width-eq32 : goal.returns-then-width-eq32
+returns-then-width-eq32 c =
+    let both = rw c.if-width-eq32.true c.forward_at.ensures in
+    record {
+      value = both.0;
+      vectors_after = both.1;
+    }
+
+pub returns-then-width-eq64 : goal.returns-then-width-eq64
+returns-then-width-eq64 c =
+    let both = rw c.if-width-eq64.true c.forward_at-then-width-eq64.ensures in
+    record {
+      value = both.0;
+      vectors_after = both.1;
+    }
+
+pub returns : goal.returns
+returns c =
+    let a = c.args in
+    let both = width_refused Forward a.width a.sheet.now a.vectors.now c.if-width-eq32.false c.if-width-eq64.false in
+    record {
+      value = both.0;
+      vectors_after = both.1;
+    }

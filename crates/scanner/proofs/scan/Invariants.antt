@@ -1,0 +1,14 @@
+use borrow.Author.Rules.{rules}
+use mathlib.Core.Path.{sym, ◌∙◌}
+use native.Mathlib.Omega.{arith}
+use lib.ListN.{length}
+use Prim.Native.Nat.{◌-◌, ◌≤◌}
+use Rattle.sheet.proofs.Sound.{got_sound, fault_inside}
+use Rattle.scanner.proofs.Scanning.{Scanning, started, more, faulty, ended}
+use Rattle.scanner.proofs.scan.Given as goal
+
+abbrev pub invariant-loop-d : goal.invariant-loop-d
+invariant-loop-d l = (length l.sheet ≤ 4096) × Scanning l.width l.sheet l.start l.initial.offsets l.offsets l.count l.units l.at l.starts
+
+abbrev pub decreases-loop-d : goal.decreases-loop-d
+decreases-loop-d l = length l.sheet - l.at
