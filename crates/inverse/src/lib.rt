@@ -1,3 +1,2 @@
 // Inverse sheets: definitions in specs/, laws in proofs/. There is no code here.
 #![tactic(auto)]
-

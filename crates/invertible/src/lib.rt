@@ -1,3 +1,2 @@
 // Steps that can be taken back: definitions in specs/, laws in proofs/. There is no code here.
 #![tactic(auto)]
-

@@ -1,3 +1,2 @@
 // Records laid out for the archive: definitions in specs/, laws in proofs/. There is no code here.
 #![tactic(auto)]
-

@@ -26,9 +26,7 @@ pub slice_bounds-digest-start-in-loop-k : goal.slice_bounds-digest-start-in-loop
 slice_bounds-digest-start-in-loop-k c = omega (arith, starts c.loop-k.invariant)
 
 pub loop-k-preserved : goal.loop-k-preserved
-loop-k-preserved c =
-    let e = c.byte_count.ensures in
-    next c.loop-k.invariant c.loop-k-test.true e.0 e.1 _ c.digest.ensures.out_after
+loop-k-preserved c = next c.loop-k.invariant c.loop-k-test.true c.byte_count.ensures.value c.byte_count.ensures.upper_bound _ c.digest.ensures.out_after
 
 pub shape_of-out : goal.shape_of-out
 shape_of-out c = c.loop-k.invariant.same

@@ -4,6 +4,7 @@ use native.Mathlib.Omega.{arith}
 use borrow.Author.Rules.{rules}
 use Rattle.comparison.proofs.Search.{Searched, begin, found_here, goes_on, found_first, width_most, word_within}
 use Rattle.comparison.proofs.first_difference.Goals as goal
+use Rattle.comparison.proofs.first_difference.Goals.{then-found-expected, else-found-expected}
 
 pub loop-i-init : goal.loop-i-init
 loop-i-init c = let a = c.args in begin a.width a.records.now a.from a.state.now
@@ -44,7 +45,10 @@ loop-i-preserved c =
     c.loop-i-test.true c.word_at-found.ensures c.word_at-expected.ensures in
     let g = goes_on a.width a.records.now a.from a.state.now c.loop-i.first c.loop-i.i c.loop-i.invariant
     c.loop-i-test.true c.word_at-found.ensures c.word_at-expected.ensures in
-    ⊎_elim (λ w. rw w.1 (h w.0.taken)) (λ w. rw w.1 (g w.0.left)) c.if-found-expected.branch
+    elim c.if-found-expected.branch [
+      then-found-expected w ↦ rw w.first-is (h w.if-found-expected.true)
+      | else-found-expected w ↦ rw w.first-is (g w.if-found-expected.false)
+    ]
 
 pub returns : goal.returns
 returns c =

@@ -13,10 +13,9 @@ loop-k-init c = (c.requires, omega arith, omega arith, refl, none_yet c.args.out
 
 pub loop-k-preserved : goal.loop-k-preserved
 loop-k-preserved c =
-    let q = c.push_line-next.ensures in
     let i = c.loop-k.invariant in
     let counts = c.args.counts.now in
-    (i.0, omega arith, omega (arith, q.1), search rules, lines_more counts c.loop-k.k i.4 c.push_line-next.new.0 c.push_line-next.result (omega arith) q.0)
+    (i.0, omega arith, omega (arith, c.push_line-next.ensures.upper_bound), search rules, lines_more counts c.loop-k.k i.4 c.push_line-next.new.out c.push_line-next.result (omega arith) c.push_line-next.ensures.pushed)
 
 pub shape_of-out : goal.shape_of-out
 shape_of-out c = c.loop-k.invariant.3

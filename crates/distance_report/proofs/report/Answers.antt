@@ -26,7 +26,7 @@ pub returns-in-Done : goal.returns-in-Done
 returns-in-Done c =
     let a = c.args in
     let end = total_line c.in-Done.sum in
-    let last : Pushed c.push_lines-at.new.0 c.push_lines-at.result end c.push_total.new.0 c.push_total.result = c.push_total.ensures.pushed in
+    let last : Pushed c.push_lines-at.new.out c.push_lines-at.result end c.push_total.new.out c.push_total.result = c.push_total.ensures.pushed in
     let f = finished (then c.push_lines-at.ensures.pushed last)
     (reported a.records.now _ _ (sym c.in-Done.is ∙ c.flipped_bits.ensures.value) c.flipped_bits.ensures.counts_after) in
     let both = (f.0, (f.1, omega (arith, c.push_lines-at.ensures.upper_bound, c.push_total.ensures.upper_bound))) in

@@ -1,11 +1,13 @@
 use borrow.Author.Rules.{rules}
 use Rattle.hamming.proofs.Ended.{ends_not_whole, ends_short, asked, ends_counted}
+use mathlib.Core.Path.{ap}
+use mathlib.Core.Bool.{not}
 use Rattle.distances.proofs.flipped_bits.Goals as goal
 
 pub returns-then-not-whole : goal.returns-then-not-whole
 returns-then-not-whole c =
     let a = c.args in
-    let both = ends_not_whole a.records.now a.counts.now c.whole_pairs-whole.ensures c.if-not-whole.true in
+    let both = ends_not_whole a.records.now a.counts.now c.whole_pairs-whole.ensures (ap not c.if-not-whole.true) in
     record {
       value = both.0;
       counts_after = both.1;
@@ -14,7 +16,7 @@ returns-then-not-whole c =
 pub returns-then-not-room : goal.returns-then-not-room
 returns-then-not-room c =
     let a = c.args in
-    let both = ends_short a.records.now a.counts.now c.whole_pairs-whole.ensures c.if-not-whole.false c.if-not-room.true in
+    let both = ends_short a.records.now a.counts.now c.whole_pairs-whole.ensures (ap not c.if-not-whole.false) (ap not c.if-not-room.true) in
     record {
       value = both.0;
       counts_after = both.1;
@@ -23,13 +25,12 @@ returns-then-not-room c =
 pub count_records-requires : goal.count_records-requires
 count_records-requires c =
     let a = c.args in
-    asked a.records.now a.counts.now c.whole_pairs-whole.ensures c.if-not-whole.false c.if-not-room.false
+    asked a.records.now a.counts.now c.whole_pairs-whole.ensures (ap not c.if-not-whole.false) (ap not c.if-not-room.false)
 
 pub returns : goal.returns
 returns c =
     let a = c.args in
-    let e = c.count_records.ensures in
-    let both = ends_counted a.records.now a.counts.now c.whole_pairs-whole.ensures c.if-not-whole.false c.if-not-room.false e.0 e.1 in
+    let both = ends_counted a.records.now a.counts.now c.whole_pairs-whole.ensures (ap not c.if-not-whole.false) (ap not c.if-not-room.false) c.count_records.ensures.value c.count_records.ensures.counts_after in
     record {
       value = both.0;
       counts_after = both.1;

@@ -5,12 +5,8 @@ use Rattle.distances.proofs.record_distance.Goals as goal
 
 pub returns : goal.returns
 returns c =
-    let x = c.word_distance-a.ensures in
-    let y = c.word_distance-b.ensures in
-    let z = c.word_distance-c.ensures in
-    let t = c.word_distance-d.ensures in
     let a = c.args in
     record {
-      result_value = words.record_distance a.s.now a.at (search rules) x.0 y.0 z.0 t.0;
-      upper_bound = omega (arith, x.1, y.1, z.1, t.1);
+      result_value = words.record_distance a.s.now a.at (search rules) c.word_distance-a.ensures.result_value c.word_distance-b.ensures.result_value c.word_distance-c.ensures.result_value c.word_distance-d.ensures.result_value;
+      upper_bound = omega (arith, c.word_distance-a.ensures.upper_bound, c.word_distance-b.ensures.upper_bound, c.word_distance-c.ensures.upper_bound, c.word_distance-d.ensures.upper_bound);
     }

@@ -6,4 +6,4 @@ pub returns : goal.returns
 returns c =
     let a = c.args in
     rw (c.subtract32-3.ensures, c.subtract32-2.ensures, c.subtract32.ensures)
-    (less_three 32 a.u a.t3 a.t2 (search rules) (search rules))
+    (less_three 32 a.u a.n a.s (search rules) (search rules))

@@ -9,4 +9,4 @@ pub returns : goal.returns
 returns c =
     let a = c.args in
     c.subtract32.ensures
-    ∙ ap (λ x. minus 32 x a.k) (c.rotate_right32.ensures ∙ ap (rotl 32 (32 - a.r)) (five_combined a.t3 a.t1 (search rules)))
+    ∙ ap (λ x. minus 32 x a.k) (c.rotate_right32.ensures ∙ ap (rotl 32 (32 - a.r)) (five_combined a.p a.z (search rules)))

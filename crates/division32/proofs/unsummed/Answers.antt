@@ -13,4 +13,4 @@ returns c =
       c.subtract32-less.ensures,
       c.subtract32-2.ensures,
       c.subtract32.ensures,
-    ) (balanced 32 a.u a.t3 a.t4 a.t2 (search rules) (search rules) (search rules))
+    ) (balanced 32 a.u a.p a.n a.s (search rules) (search rules) (search rules))

@@ -10,7 +10,7 @@ use Rattle.division64.proofs.two_fifths.Goals as goal
 
 pub returns : goal.returns
 returns c =
-    let s = c.args.t1 in
+    let s = c.args.s in
     let f : (i : ℕ) → Fits w64 (get_or s i 0) = λ i. search rules in
     let t : c.add64-all.result ≡ sum 64 0 s =
     rw (

@@ -9,4 +9,4 @@ pub returns : goal.returns
 returns c =
     let a = c.args in
     c.subtract64.ensures
-    ∙ ap (λ x. minus 64 x a.k) (c.rotate_right64.ensures ∙ ap (rotl 64 (64 - a.r)) (five_combined a.t3 a.t1 (search rules)))
+    ∙ ap (λ x. minus 64 x a.k) (c.rotate_right64.ensures ∙ ap (rotl 64 (64 - a.r)) (five_combined a.p a.z (search rules)))

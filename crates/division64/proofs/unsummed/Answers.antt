@@ -13,4 +13,4 @@ returns c =
       c.subtract64-less.ensures,
       c.subtract64-2.ensures,
       c.subtract64.ensures,
-    ) (balanced 64 a.u a.t3 a.t4 a.t2 (search rules) (search rules) (search rules))
+    ) (balanced 64 a.u a.p a.n a.s (search rules) (search rules) (search rules))

@@ -7,8 +7,7 @@ use Rattle.edonr.proofs.edonr_shuffle.Goals as goal
 
 pub returns : goal.returns
 returns c =
-    let e = c.shuffle.ensures in
-    let both = (c.marked_number.ensures ∙ ap marked_number e.0, (e.1.0, subst (Fits (2 ^ 63)) e.0 e.1.1)) in
+    let both = (c.marked_number.ensures ∙ ap marked_number c.shuffle.ensures.value, (c.shuffle.ensures.out_after.0, subst (Fits (2 ^ 63)) c.shuffle.ensures.value c.shuffle.ensures.out_after.1)) in
     record {
       value = both.0;
       out_after = both.1;

@@ -3,4 +3,4 @@ use Rattle.std.proofs.Common.{rules}
 use Rattle.half64.proofs.combination.Goals as goal
 
 pub returns : goal.returns
-returns c = three_combined c.args.t2 c.args.t1 (search rules)
+returns c = three_combined c.args.p c.args.t (search rules)

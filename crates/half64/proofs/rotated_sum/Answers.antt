@@ -5,4 +5,4 @@ use Rattle.half64.proofs.rotated_sum.Goals as goal
 pub returns : goal.returns
 returns c =
     let a = c.args in
-    cc (five_summed 64 a.k a.t3 a.t1 (search rules))
+    cc (five_summed 64 a.k a.p a.v (search rules))

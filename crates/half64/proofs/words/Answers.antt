@@ -3,4 +3,4 @@ use Rattle.std.proofs.Common.{rules}
 use Rattle.half64.proofs.words.Goals as goal
 
 pub returns : goal.returns
-returns c = spread 8 c.args.t1 (search rules)
+returns c = spread 8 c.args.v (search rules)

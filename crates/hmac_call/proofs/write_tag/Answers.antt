@@ -28,7 +28,7 @@ slice_bounds-digest-end-3 c = sym (length-take-le _ _ (array-share-prefix-outer 
 
 pub slice_bounds-digest-end-4 : goal.slice_bounds-digest-end-4
 slice_bounds-digest-end-4 c =
-    let l : length c.digest.new.1.1.1.0 ≡ 64 = search rules in
+    let l : length c.digest.new.out ≡ 64 = search rules in
     omega (arith, l, known_bound c.args.size c.requires.0)
 
 pub slice_bounds-digest-end-5 : goal.slice_bounds-digest-end-5

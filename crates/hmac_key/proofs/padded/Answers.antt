@@ -8,15 +8,15 @@ use Rattle.hmac.proofs.Padded.{Padded, none_padded, one_padded, all_padded}
 use Rattle.hmac_key.proofs.padded.Goals as goal
 
 pub loop-i-init : goal.loop-i-init
-loop-i-init c = none_padded c.args.pad c.args.t1
+loop-i-init c = none_padded c.args.pad c.args.k
 
 pub loop-i-preserved : goal.loop-i-preserved
 loop-i-preserved c =
-    let l : length c.args.t1 ≡ 128 = search rules in
+    let l : length c.args.k ≡ 128 = search rules in
     one_padded c.args.pad c.loop-i.invariant (omega (arith, l, c.loop-i-test.true))
 
 pub returns : goal.returns
 returns c =
     let a = c.args in
-    let l : length a.t1 ≡ 128 = search rules in
-    all_padded a.pad c.loop-i.invariant (omega (arith, l, c.loop-i-test.false)) ∙ ap (λ (n : ℕ). xored a.t1 (replicate n a.pad)) l
+    let l : length a.k ≡ 128 = search rules in
+    all_padded a.pad c.loop-i.invariant (omega (arith, l, c.loop-i-test.false)) ∙ ap (λ (n : ℕ). xored a.k (replicate n a.pad)) l

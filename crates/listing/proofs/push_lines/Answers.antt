@@ -22,9 +22,8 @@ loop-d-preserved c =
     let a = c.args in
     let e = sym c.read_command.ensures ∙ c.in-Got.is in
     let h = got_sound a.width a.sheet.now c.loop-d.at e in
-    let q = c.push_line-next.ensures in
-    let m = lines_more a.width a.sheet.now c.loop-d.at c.loop-d.invariant.4 c.in-Got.d e q.0 in
-    (c.loop-d.invariant.0, h.within, omega (arith, h.on, q.1), search rules, m)
+    let m = lines_more a.width a.sheet.now c.loop-d.at c.loop-d.invariant.4 c.in-Got.d e c.push_line-next.ensures.pushed in
+    (c.loop-d.invariant.0, h.within, omega (arith, h.on, c.push_line-next.ensures.upper_bound), search rules, m)
 
 pub shape_of-out-in-Fault : goal.shape_of-out-in-Fault
 shape_of-out-in-Fault c = c.loop-d.invariant.3

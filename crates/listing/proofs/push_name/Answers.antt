@@ -11,7 +11,7 @@ use Rattle.listing.proofs.push_name.Goals as goal
 pub returns : goal.returns
 returns c =
     let l : length c.name-text.result ≡ 4 = search rules in
-    let pushed : List ℕ → Type 0 = λ l. Pushed c.push-next.new.0 c.push-next.result l c.push_text.new.0 c.push_text.result in
+    let pushed : List ℕ → Type 0 = λ l. Pushed c.push-next.new.out c.push-next.result l c.push_text.new.out c.push_text.result in
     let t = subst pushed c.name-text.ensures c.push_text.ensures in
     record {
       pushed = then c.push-next.ensures t;

@@ -6,7 +6,7 @@ pub returns : goal.returns
 returns c =
     let a = c.args in
     let both = loaded a.s.now 4 a.at (search rules)
-    (byte_read c.byte.ensures, (byte_read c.byte-2.ensures, (byte_read c.byte-3.ensures, (byte_read c.byte-4.ensures, tt))))
+    (byte_read (c.byte.ensures.value, c.byte.ensures.upper_bound), (byte_read (c.byte-2.ensures.value, c.byte-2.ensures.upper_bound), (byte_read (c.byte-3.ensures.value, c.byte-3.ensures.upper_bound), (byte_read (c.byte-4.ensures.value, c.byte-4.ensures.upper_bound), tt))))
     (search rules) in
     record {
       value = both.0;

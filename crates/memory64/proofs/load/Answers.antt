@@ -6,21 +6,21 @@ pub returns : goal.returns
 returns c =
     let a = c.args in
     let both = loaded a.s.now 8 a.at (search rules) (
-      byte_read c.byte.ensures,
+      byte_read (c.byte.ensures.value, c.byte.ensures.upper_bound),
       (
-        byte_read c.byte-2.ensures,
+        byte_read (c.byte-2.ensures.value, c.byte-2.ensures.upper_bound),
         (
-          byte_read c.byte-3.ensures,
+          byte_read (c.byte-3.ensures.value, c.byte-3.ensures.upper_bound),
           (
-            byte_read c.byte-4.ensures,
+            byte_read (c.byte-4.ensures.value, c.byte-4.ensures.upper_bound),
             (
-              byte_read c.byte-5.ensures,
+              byte_read (c.byte-5.ensures.value, c.byte-5.ensures.upper_bound),
               (
-                byte_read c.byte-6.ensures,
+                byte_read (c.byte-6.ensures.value, c.byte-6.ensures.upper_bound),
                 (
-                  byte_read c.byte-7.ensures,
+                  byte_read (c.byte-7.ensures.value, c.byte-7.ensures.upper_bound),
                   (
-                    byte_read c.byte-8.ensures,
+                    byte_read (c.byte-8.ensures.value, c.byte-8.ensures.upper_bound),
                     tt,
                   ),
                 ),

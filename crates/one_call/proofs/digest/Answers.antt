@@ -7,7 +7,7 @@ use Rattle.one_call.proofs.digest.Goals as goal
 pub returns-then-is_size : goal.returns-then-is_size
 returns-then-is_size c =
     let a = c.args in
-    let both = by_kind a.size a.message.now a.out.now true (sym c.is_size.ensures ∙ c.if-is_size.true) c.digest.ensures in
+    let both = by_kind a.size a.message.now a.out.now true (sym c.is_size.ensures ∙ c.if-is_size.true) (c.digest.ensures.value, c.digest.ensures.out_after) in
     record {
       value = both.0;
       out_after = both.1;
@@ -16,7 +16,7 @@ returns-then-is_size c =
 pub returns : goal.returns
 returns c =
     let a = c.args in
-    let both = by_kind a.size a.message.now a.out.now false (sym c.is_size.ensures ∙ c.if-is_size.false) c.digest-2.ensures in
+    let both = by_kind a.size a.message.now a.out.now false (sym c.is_size.ensures ∙ c.if-is_size.false) (c.digest-2.ensures.value, c.digest-2.ensures.out_after) in
     record {
       value = both.0;
       out_after = both.1;

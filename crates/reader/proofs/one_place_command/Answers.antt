@@ -6,6 +6,3 @@ returns-in-6 c = rw c.in-6.is
 
 pub returns-in-7 : goal.returns-in-7
 returns-in-7 c = rw c.in-7.is
-
-pub returns-in_default : goal.returns-in_default
-returns-in_default c = let r = c.in_default.rest in rw (ne_eqb _ _ r.0.1, ne_eqb _ _ r.1)

@@ -24,29 +24,29 @@ returns-then-opcode-gt8 c =
 pub returns-then-sheet-at-2 : goal.returns-then-sheet-at-2
 returns-then-sheet-at-2 c =
     let a = c.args in
-    truncated a.width a.sheet.now a.at c.if-sheet-at.false c.if-opcode-eq0.false c.if-opcode-gt8.false z.type_size.result z.type_size.ensures
+    truncated a.width a.sheet.now a.at c.if-sheet-at.false c.if-opcode-eq0.false c.if-opcode-gt8.false c.size_of-size.result c.size_of-size.ensures
     c.if-sheet-at-2.true
 
 pub bounds-sheet-i : goal.bounds-sheet-i
 bounds-sheet-i c =
     let a = c.args in
-    omega (arith, size_two a.width (get_or a.sheet.now a.at 0), c.if-sheet-at.false, c.if-sheet-at-2.false, z.type_size.ensures)
+    omega (arith, size_two a.width (get_or a.sheet.now a.at 0), c.if-sheet-at.false, c.if-sheet-at-2.false, c.size_of-size.ensures)
 
 pub bounds-sheet-j : goal.bounds-sheet-j
 bounds-sheet-j c =
     let a = c.args in
-    omega (arith, size_three a.width (get_or a.sheet.now a.at 0) c.if-opcode-lt6.true, c.if-sheet-at.false, c.if-sheet-at-2.false, z.type_size.ensures)
+    omega (arith, size_three a.width (get_or a.sheet.now a.at 0) c.if-opcode-lt6.true, c.if-sheet-at.false, c.if-sheet-at-2.false, c.size_of-size.ensures)
 
 pub returns-then-opcode-lt6 : goal.returns-then-opcode-lt6
 returns-then-opcode-lt6 c =
     let a = c.args in
     c.two_places.ensures
-    ∙ of_two a.width a.sheet.now a.at c.if-sheet-at.false c.if-opcode-eq0.false c.if-opcode-gt8.false z.type_size.result z.type_size.ensures
+    ∙ of_two a.width a.sheet.now a.at c.if-sheet-at.false c.if-opcode-eq0.false c.if-opcode-gt8.false c.size_of-size.result c.size_of-size.ensures
     c.if-sheet-at-2.false c.if-opcode-lt6.true _ c.from_u8-d.ensures c.from_u8.ensures
 
 pub returns : goal.returns
 returns c =
     let a = c.args in
     c.one_place.ensures
-    ∙ of_one a.width a.sheet.now a.at c.if-sheet-at.false c.if-opcode-eq0.false c.if-opcode-gt8.false z.type_size.result z.type_size.ensures
+    ∙ of_one a.width a.sheet.now a.at c.if-sheet-at.false c.if-opcode-eq0.false c.if-opcode-gt8.false c.size_of-size.result c.size_of-size.ensures
     c.if-sheet-at-2.false c.if-opcode-lt6.false _ c.from_u8-d.ensures

@@ -12,6 +12,3 @@ returns-in-3 c = rw c.in-3.is
 
 pub returns-in-4 : goal.returns-in-4
 returns-in-4 c = rw c.in-4.is
-
-pub returns-in_default : goal.returns-in_default
-returns-in_default c = let r = c.in_default.rest in rw (ne_eqb _ _ r.0.0.0.1, ne_eqb _ _ r.0.0.1, ne_eqb _ _ r.0.1, ne_eqb _ _ r.1)

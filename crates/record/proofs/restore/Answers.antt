@@ -9,7 +9,7 @@ use Rattle.record.proofs.Moved.{rows_inside, row_inside, restore_more, restore_a
 use Rattle.record.proofs.restore.Goals as goal
 
 pub loop-g-init : goal.loop-g-init
-loop-g-init c = let p = c.requires in none_moved p.0.0 p.1.0 p.1.1
+loop-g-init c = none_moved c.requires.tiled.0 c.requires.s_len.0 c.requires.s_len.1
 
 pub load-x-requires : goal.load-x-requires
 load-x-requires c =

@@ -10,11 +10,13 @@ use Rattle.invertible.specs.RoundTrip.{Backward}
 use Rattle.sheet.proofs.Checked.{whole_offsets}
 use Rattle.sheet.proofs.Ran.{size_refused, fault_refused}
 use Rattle.run.proofs.Whole.{backward_whole}
+use mathlib.Core.Path.{ap}
+use mathlib.Core.Bool.{not}
 use Rattle.run.proofs.backward_at.Goals as goal
 
 pub returns-then-not-vectors_fit : goal.returns-then-not-vectors_fit
 returns-then-not-vectors_fit c =
-    let both = size_refused Backward c.args.width c.args.sheet.now c.args.vectors.now c.requires (stops c.vectors_fit.ensures c.if-not-vectors_fit.true) in
+    let both = size_refused Backward c.args.width c.args.sheet.now c.args.vectors.now c.requires (stops c.vectors_fit.ensures (ap not c.if-not-vectors_fit.true)) in
     record {
       value = both.0;
       vectors_after = both.1;
@@ -25,7 +27,7 @@ backward-requires c =
     let a = c.args in
     let e = sym c.in-Whole.is ∙ c.check.ensures.value in (
       c.requires,
-      eqb-true (length a.vectors.now) (place_count * a.width) (goes_on c.vectors_fit.ensures c.if-not-vectors_fit.false),
+      eqb-true (length a.vectors.now) (place_count * a.width) (goes_on c.vectors_fit.ensures (ap not c.if-not-vectors_fit.false)),
       (whole_offsets a.width a.sheet.now e (replicate 2048 0) (search rules) c.check.ensures.offsets_after).0,
     )
 
@@ -34,8 +36,8 @@ returns-in-Whole c =
     let w = c.args.width in
     let s = c.args.sheet.now in
     let e = sym c.in-Whole.is ∙ c.check.ensures.value in
-    let both = backward_whole w s c.args.vectors.now e c.requires (goes_on c.vectors_fit.ensures c.if-not-vectors_fit.false)
-    c.backward.new.1.1.1.1.0 (λ i. omega (arith, c.type_inv.vectors i)) (search rules) _
+    let both = backward_whole w s c.args.vectors.now e c.requires (goes_on c.vectors_fit.ensures (ap not c.if-not-vectors_fit.false))
+    c.backward.new.vectors (λ i. omega (arith, c.type_inv.vectors i)) (search rules) _
     (whole_offsets w s e (replicate 2048 0) (search rules) c.check.ensures.offsets_after).1 c.backward.ensures in
     record {
       value = both.0;
@@ -44,7 +46,7 @@ returns-in-Whole c =
 
 pub returns-in-Faulty : goal.returns-in-Faulty
 returns-in-Faulty c =
-    let both = fault_refused Backward c.args.width c.args.sheet.now c.args.vectors.now c.requires (goes_on c.vectors_fit.ensures c.if-not-vectors_fit.false)
+    let both = fault_refused Backward c.args.width c.args.sheet.now c.args.vectors.now c.requires (goes_on c.vectors_fit.ensures (ap not c.if-not-vectors_fit.false))
     c.in-Faulty.r c.in-Faulty.at (sym c.in-Faulty.is ∙ c.check.ensures.value) in
     record {
       value = both.0;

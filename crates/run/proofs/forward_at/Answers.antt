@@ -9,23 +9,25 @@ use Rattle.sheet.specs.Read.{place_count}
 use Rattle.invertible.specs.RoundTrip.{Forward}
 use Rattle.sheet.proofs.Ran.{size_refused, fault_refused}
 use Rattle.run.proofs.Whole.{forward_whole}
+use mathlib.Core.Path.{ap}
+use mathlib.Core.Bool.{not}
 use Rattle.run.proofs.forward_at.Goals as goal
 
 pub returns-then-not-vectors_fit : goal.returns-then-not-vectors_fit
 returns-then-not-vectors_fit c =
-    let both = size_refused Forward c.args.width c.args.sheet.now c.args.vectors.now c.requires (stops c.vectors_fit.ensures c.if-not-vectors_fit.true) in
+    let both = size_refused Forward c.args.width c.args.sheet.now c.args.vectors.now c.requires (stops c.vectors_fit.ensures (ap not c.if-not-vectors_fit.true)) in
     record {
       value = both.0;
       vectors_after = both.1;
     }
 
 pub forward-requires : goal.forward-requires
-forward-requires c = (c.requires, eqb-true (length c.args.vectors.now) (place_count * c.args.width) (goes_on c.vectors_fit.ensures c.if-not-vectors_fit.false))
+forward-requires c = (c.requires, eqb-true (length c.args.vectors.now) (place_count * c.args.width) (goes_on c.vectors_fit.ensures (ap not c.if-not-vectors_fit.false)))
 
 pub returns-in-Whole : goal.returns-in-Whole
 returns-in-Whole c =
     let both = forward_whole c.args.width c.args.sheet.now c.args.vectors.now (sym c.in-Whole.is ∙ c.check.ensures.value)
-    c.requires (goes_on c.vectors_fit.ensures c.if-not-vectors_fit.false) c.forward.new.1.1.0
+    c.requires (goes_on c.vectors_fit.ensures (ap not c.if-not-vectors_fit.false)) c.forward.new.vectors
     (λ i. omega (arith, c.type_inv.vectors i)) (search rules) c.forward.ensures in
     record {
       value = both.0;
@@ -34,7 +36,7 @@ returns-in-Whole c =
 
 pub returns-in-Faulty : goal.returns-in-Faulty
 returns-in-Faulty c =
-    let both = fault_refused Forward c.args.width c.args.sheet.now c.args.vectors.now c.requires (goes_on c.vectors_fit.ensures c.if-not-vectors_fit.false)
+    let both = fault_refused Forward c.args.width c.args.sheet.now c.args.vectors.now c.requires (goes_on c.vectors_fit.ensures (ap not c.if-not-vectors_fit.false))
     c.in-Faulty.r c.in-Faulty.at (sym c.in-Faulty.is ∙ c.check.ensures.value) in
     record {
       value = both.0;

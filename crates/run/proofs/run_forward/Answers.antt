@@ -5,7 +5,7 @@ use Rattle.run.proofs.run_forward.Goals as goal
 
 pub returns-then-width-eq32 : goal.returns-then-width-eq32
 returns-then-width-eq32 c =
-    let both = rw c.if-width-eq32.true c.forward_at.ensures in
+    let both = rw c.if-width-eq32.true (c.forward_at.ensures.value, c.forward_at.ensures.vectors_after) in
     record {
       value = both.0;
       vectors_after = both.1;
@@ -13,7 +13,7 @@ returns-then-width-eq32 c =
 
 pub returns-then-width-eq64 : goal.returns-then-width-eq64
 returns-then-width-eq64 c =
-    let both = rw c.if-width-eq64.true c.forward_at-then-width-eq64.ensures in
+    let both = rw c.if-width-eq64.true (c.forward_at-then-width-eq64.ensures.value, c.forward_at-then-width-eq64.ensures.vectors_after) in
     record {
       value = both.0;
       vectors_after = both.1;

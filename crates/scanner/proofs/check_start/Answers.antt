@@ -17,7 +17,7 @@ returns-then-sheet-gt-LONGEST c =
 pub returns : goal.returns
 returns c =
     let a = c.args in
-    let both = rw (← plan_scanned place_count a.width a.sheet.now c.if-sheet-gt-LONGEST.false) c.scan.ensures in
+    let both = rw (← plan_scanned place_count a.width a.sheet.now c.if-sheet-gt-LONGEST.false) (c.scan.ensures.summary_value, c.scan.ensures.starts_value, c.scan.ensures.offsets_after) in
     record {
       summary_value = both.0;
       starts_value = both.1;

@@ -11,7 +11,7 @@ pub loop-n-init : goal.loop-n-init
 loop-n-init c =
     let a = c.args in
     let h = c.requires.0 in
-    let l : length a.t4 ≡ 128 = search rules in
+    let l : length a.x ≡ 128 = search rules in
     rows_begin (some_rows a.k a.q h) c.requires.1 (subst (Inside a.k a.q 0 a.q) (sym l) (in_tile a.k a.q h))
 
 pub overflow_add-o : goal.overflow_add-o

@@ -10,12 +10,11 @@ pub loop-n-init : goal.loop-n-init
 loop-n-init c = (search rules, c.requires, repeated_none c.args.x (search rules))
 
 pub loop-n-preserved : goal.loop-n-preserved
-loop-n-preserved c =
-    (
-      omega arith,
-      c.loop-n.invariant.1,
-      c.interleave-next.ensures ∙ ap (transposed 2 64) c.loop-n.invariant.2 ∙ repeated_more c.loop-n.n c.args.x (omega (arith, c.loop-n.invariant.1, c.loop-n-test.true)),
-    )
+loop-n-preserved c = (
+  omega arith,
+  c.loop-n.invariant.1,
+  c.interleave-next.ensures ∙ ap (transposed 2 64) c.loop-n.invariant.2 ∙ repeated_more c.loop-n.n c.args.x (omega (arith, c.loop-n.invariant.1, c.loop-n-test.true)),
+)
 
 pub returns : goal.returns
 returns c =

@@ -2,13 +2,15 @@ use borrow.Author.Rules.{rules}
 use Rattle.digest.proofs.Answers.{wide_sized}
 use Rattle.digest.proofs.TwoParts.{opening_refused, first_refused, second_refused, both_fed}
 use Rattle.wide.proofs.Whole.{opened_parts, fed_parts}
+use mathlib.Core.Path.{ap}
+use mathlib.Core.Bool.{not}
 use Rattle.two_parts.proofs.wide_digest.Goals as goal
 
 pub returns-then-not-is_done : goal.returns-then-not-is_done
 returns-then-not-is_done c =
     let a = c.args in
     let both = opening_refused wide_sized a.size a.first.now a.second.now a.out.now (opened_parts _ o.«open».ensures) c.is_done.ensures
-    c.if-not-is_done.true in
+    (ap not c.if-not-is_done.true) in
     record {
       value = both.0;
       out_after = both.1;
@@ -18,7 +20,7 @@ pub returns-then-not-is_done-2 : goal.returns-then-not-is_done-2
 returns-then-not-is_done-2 c =
     let a = c.args in
     let both = first_refused wide_sized a.size a.first.now a.second.now a.out.now (opened_parts _ o.«open».ensures) c.is_done.ensures
-    c.if-not-is_done.false (fed_parts _ _ c.feed-f.ensures) c.is_done-2.ensures c.if-not-is_done-2.true in
+    (ap not c.if-not-is_done.false) (fed_parts _ _ c.feed-f.ensures) c.is_done-2.ensures (ap not c.if-not-is_done-2.true) in
     record {
       value = both.0;
       out_after = both.1;
@@ -28,8 +30,8 @@ pub returns-then-not-is_done-3 : goal.returns-then-not-is_done-3
 returns-then-not-is_done-3 c =
     let a = c.args in
     let both = second_refused wide_sized a.size a.first.now a.second.now a.out.now (opened_parts _ o.«open».ensures) c.is_done.ensures
-    c.if-not-is_done.false (fed_parts _ _ c.feed-f.ensures) c.is_done-2.ensures c.if-not-is_done-2.false (fed_parts _ _ c.feed-g.ensures) c.is_done-3.ensures
-    c.if-not-is_done-3.true in
+    (ap not c.if-not-is_done.false) (fed_parts _ _ c.feed-f.ensures) c.is_done-2.ensures (ap not c.if-not-is_done-2.false) (fed_parts _ _ c.feed-g.ensures) c.is_done-3.ensures
+    (ap not c.if-not-is_done-3.true) in
     record {
       value = both.0;
       out_after = both.1;
@@ -39,8 +41,8 @@ pub returns : goal.returns
 returns c =
     let a = c.args in
     let both = both_fed wide_sized a.size a.first.now a.second.now a.out.now (opened_parts _ o.«open».ensures) c.is_done.ensures
-    c.if-not-is_done.false (fed_parts _ _ c.feed-f.ensures) c.is_done-2.ensures c.if-not-is_done-2.false (fed_parts _ _ c.feed-g.ensures) c.is_done-3.ensures
-    c.if-not-is_done-3.false 0 c.finish.ensures in
+    (ap not c.if-not-is_done.false) (fed_parts _ _ c.feed-f.ensures) c.is_done-2.ensures (ap not c.if-not-is_done-2.false) (fed_parts _ _ c.feed-g.ensures) c.is_done-3.ensures
+    (ap not c.if-not-is_done-3.false) 0 (c.finish.ensures.value, c.finish.ensures.out_after) in
     record {
       value = both.0;
       out_after = both.1;

@@ -6,6 +6,8 @@ use borrow.Author.Tests.{not-true, not-false}
 use lib.ListN.{length}
 use Rattle.answer.proofs.Tests as Tests
 use Rattle.verifier.proofs.Loop.{Replayed, begin, some_bytes, room, few, holds_all, all_done, one_done, found_false, goes_on}
+use mathlib.Core.Path.{ap}
+use mathlib.Core.Bool.{not}
 use Rattle.verifier.proofs.first_false.Goals as goal
 
 pub loop-from-init : goal.loop-from-init
@@ -28,7 +30,7 @@ finding-finding-requires c =
     let l = c.loop-from.invariant.1 in
     record {
       width_value = (l.known, search (rules, l.bytes), room l c.loop-from-test.true);
-      state_value = Tests.stops c.record_holds.ensures c.if-not-record_holds.true;
+      state_value = Tests.stops c.record_holds.ensures (ap not c.if-not-record_holds.true);
     }
 
 pub shape_of-state-then-not-record_holds : goal.shape_of-state-then-not-record_holds
@@ -37,11 +39,11 @@ shape_of-state-then-not-record_holds c = search (rules, c.loop-from.invariant.0)
 pub returns-then-not-record_holds : goal.returns-then-not-record_holds
 returns-then-not-record_holds c =
     let l = c.loop-from.invariant.1 in
-    let last = c.step_forward-next.new.1.1.1.0 in
+    let last = c.step_forward-next.new.vectors in
     let e = c.step_forward-next.ensures in
     record {
       result_value = found_false l c.loop-from-test.true last e.0 e.1 c.record_holds.ensures
-          (not-true c.record_holds.result c.if-not-record_holds.true) c.finding-finding.ensures;
+          (not-true c.record_holds.result (ap not c.if-not-record_holds.true)) c.finding-finding.ensures;
       state_after = one_done l c.loop-from-test.true last e.0 e.1;
     }
 
@@ -65,8 +67,8 @@ loop-from-preserved c =
     let l = c.loop-from.invariant.1 in
     let e = c.step_forward-next.ensures in (
       search (rules, c.loop-from.invariant.0),
-      goes_on l c.loop-from-test.true c.step_forward-next.new.1.1.1.0 e.0 e.1 c.record_holds.ensures
-          (not-false c.record_holds.result c.if-not-record_holds.false) (search rules),
+      goes_on l c.loop-from-test.true c.step_forward-next.new.vectors e.0 e.1 c.record_holds.ensures
+          (not-false c.record_holds.result (ap not c.if-not-record_holds.false)) (search rules),
     )
 
 pub shape_of-state : goal.shape_of-state

@@ -6,6 +6,8 @@ use borrow.Author.Tests.{not-true, not-false}
 use lib.ListN.{length}
 use Rattle.answer.proofs.Tests as Tests
 use Rattle.verifier.proofs.Loop.{Replayed, begin, some_bytes, room, few, holds_all, all_done, one_done, found_false, goes_on}
+use mathlib.Core.Path.{ap}
+use mathlib.Core.Bool.{not}
 use Rattle.verifier.proofs.first_false.Given as goal
 
 abbrev pub invariant-loop-from : goal.invariant-loop-from

@@ -4,4 +4,4 @@ use Rattle.word.proofs.add32.Goals as goal
 
 pub returns : goal.returns
 unfolding plus
-returns c = c.wrapping_add_u32.ensures
+returns c = c.wrapping_add_u32.ensures.value

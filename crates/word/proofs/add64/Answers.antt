@@ -4,4 +4,4 @@ use Rattle.word.proofs.add64.Goals as goal
 
 pub returns : goal.returns
 unfolding plus
-returns c = c.wrapping_add_u64.ensures
+returns c = c.wrapping_add_u64.ensures.value

@@ -4,24 +4,26 @@ use lib.ListN.{length}
 use Rattle.answer.proofs.Tests.{goes_on, stops}
 use Rattle.shuffle.proofs.Widths.{sized}
 use Rattle.operands.proofs.RecordTests.{unknown_refused, broken_refused, output_refused, accepted}
+use mathlib.Core.Path.{ap}
+use mathlib.Core.Bool.{not}
 use Rattle.operands.proofs.records.answer_for.Goals as goal
 
 pub returns-then-not-known_width : goal.returns-then-not-known_width
 returns-then-not-known_width c =
     let both = unknown_refused c.args.width (length c.args.records.now) (length c.args.out.now) (omega (arith, c.well_formed))
-    (stops c.known_width.ensures c.if-not-known_width.true) in
+    (stops c.known_width.ensures (ap not c.if-not-known_width.true)) in
     record {
       value = both.0;
       fits = both.1;
     }
 
 pub nonzero_rem-rest : goal.nonzero_rem-rest
-nonzero_rem-rest c = omega (arith, (sized c.args.width (goes_on c.known_width.ensures c.if-not-known_width.false)).some)
+nonzero_rem-rest c = omega (arith, (sized c.args.width (goes_on c.known_width.ensures (ap not c.if-not-known_width.false))).some)
 
 pub returns-then-rest-ne0 : goal.returns-then-rest-ne0
 returns-then-rest-ne0 c =
     let both = broken_refused c.args.width (length c.args.records.now) (length c.args.out.now) (omega (arith, c.well_formed))
-    (goes_on c.known_width.ensures c.if-not-known_width.false) c.if-rest-ne0.true in
+    (goes_on c.known_width.ensures (ap not c.if-not-known_width.false)) c.if-rest-ne0.true in
     record {
       value = both.0;
       fits = both.1;
@@ -30,7 +32,7 @@ returns-then-rest-ne0 c =
 pub returns-then-out-records : goal.returns-then-out-records
 returns-then-out-records c =
     let both = output_refused c.args.width (length c.args.records.now) (length c.args.out.now) (omega (arith, c.well_formed))
-    (goes_on c.known_width.ensures c.if-not-known_width.false) c.if-rest-ne0.false c.if-out-records.true in
+    (goes_on c.known_width.ensures (ap not c.if-not-known_width.false)) c.if-rest-ne0.false c.if-out-records.true in
     record {
       value = both.0;
       fits = both.1;
@@ -39,7 +41,7 @@ returns-then-out-records c =
 pub returns : goal.returns
 returns c =
     let both = accepted c.args.width (length c.args.records.now) (length c.args.out.now) (omega (arith, c.well_formed))
-    (goes_on c.known_width.ensures c.if-not-known_width.false) c.if-rest-ne0.false c.if-out-records.false in
+    (goes_on c.known_width.ensures (ap not c.if-not-known_width.false)) c.if-rest-ne0.false c.if-out-records.false in
     record {
       value = both.0;
       fits = both.1;

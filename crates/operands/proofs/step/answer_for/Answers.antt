@@ -1,21 +1,23 @@
 use borrow.Author.Rules.{rules}
 use Rattle.answer.proofs.Tests.{goes_on, stops}
 use Rattle.operands.proofs.StepTests.{unknown_refused, operand_refused, accepted}
+use mathlib.Core.Path.{ap}
+use mathlib.Core.Bool.{not}
 use Rattle.operands.proofs.step.answer_for.Goals as goal
 
 pub returns-then-not-known_width : goal.returns-then-not-known_width
 returns-then-not-known_width c =
     let a = c.args in
-    unknown_refused a.width a.block.now a.pipe.now (stops c.known_width.ensures c.if-not-known_width.true)
+    unknown_refused a.width a.block.now a.pipe.now (stops c.known_width.ensures (ap not c.if-not-known_width.true))
 
 pub returns-then-not-operands_fit : goal.returns-then-not-operands_fit
 returns-then-not-operands_fit c =
     let a = c.args in
-    operand_refused a.width a.block.now a.pipe.now (goes_on c.known_width.ensures c.if-not-known_width.false)
-    (stops c.operands_fit.ensures c.if-not-operands_fit.true)
+    operand_refused a.width a.block.now a.pipe.now (goes_on c.known_width.ensures (ap not c.if-not-known_width.false))
+    (stops c.operands_fit.ensures (ap not c.if-not-operands_fit.true))
 
 pub returns : goal.returns
 returns c =
     let a = c.args in
-    accepted a.width a.block.now a.pipe.now (goes_on c.known_width.ensures c.if-not-known_width.false)
-    (goes_on c.operands_fit.ensures c.if-not-operands_fit.false)
+    accepted a.width a.block.now a.pipe.now (goes_on c.known_width.ensures (ap not c.if-not-known_width.false))
+    (goes_on c.operands_fit.ensures (ap not c.if-not-operands_fit.false))
