@@ -2,14 +2,16 @@
 #
 #   make                the archive target/staticlib/libedonr.a, and target/probe/edonr-probe
 #   make run            a probe run of a few seconds
-#   make test           all tests: everything is proved and run from nothing; the gate calls it
+#   make test           all tests: rt ci proves and runs everything, and the comparisons with C follow; the gate calls it
+#   make target/bin/flips
+#                       the program flips; target/bin/lister is the lister
 #   make mutants        shows that the comparisons with C see wrong archives
 #   make bench          the benchmark's table; CC=clang sets the compiler of the C side
 #   make bench BEFORE=libedonr.a
 #                       the same, with the digests of an earlier archive measured in turn
 #   make install        archive, header and probe under $(DESTDIR)$(PREFIX)
 #   make uninstall      removes those three
-#   make clean          removes all that was built, proofs included
+#   make clean          removes all that was built, proofs included (crates/*/out, which rt makes)
 
 CC = gcc
 CFLAGS = -O2
@@ -18,20 +20,37 @@ DESTDIR =
 
 warnings = -Wall -Wextra -pedantic -Werror
 archive = target/staticlib/libedonr.a
+programs = target/bin/lister target/bin/flips
 probe = target/probe/edonr-probe
 bench = target/bench/edonr-bench-$(notdir $(CC))$(if $(BEFORE),-before)
 before = target/bench/before.o
 header = include/edonr.h
 bench_sources = $(wildcard bench/*.[ch] tests/harness/*.[ch] tests/reference/*.[ch])
 prefix = $(DESTDIR)$(PREFIX)
+# What the archive and the programs are made from: all of crates/ but what rt makes of it.
+sources := crates.txt $(shell find crates -regex 'crates/[^/]*/out' -prune -o -type f -print)
 
 .PHONY: all run test mutants bench install uninstall clean $(before)
 
 all: $(archive) $(probe)
 
-# rt proves only what has changed and may leave the archive as it is; its time must follow.
-$(archive): crates.txt $(shell find crates -type f)
-	rt staticlib edonr
+# rt lib proves what has changed, of edonr and the crates below it, and builds the archive in the crate's out/.
+$(archive): $(sources)
+	cd crates/edonr && rt lib
+	mkdir -p $(@D)
+	cp crates/edonr/out/libedonr.a $@
+
+$(programs):
+	mkdir -p $(@D)
+	cp $< $@
+
+target/bin/lister: crates/lister/out/lister
+target/bin/flips: crates/flips/out/flips
+
+# rt builds a program to run it. Both are there once rt ci has passed, and are then not built again. rt run proves only what
+# has changed and may leave the program as it is; its time must follow.
+crates/lister/out/lister crates/flips/out/flips: $(sources)
+	cd crates/$(@F) && rt run </dev/null >/dev/null
 	touch $@
 
 $(probe): $(wildcard probe/*.c probe/*.h) $(header) $(archive)
@@ -72,4 +91,4 @@ uninstall:
 	rm -f $(prefix)/lib/libedonr.a $(prefix)/include/edonr.h $(prefix)/bin/edonr-probe
 
 clean:
-	rm -rf target
+	rm -rf target crates/*/out
