@@ -2,19 +2,22 @@
 // output no contract can say; what is printed for the bytes that were read is the crate `listing`'s to say.
 #![tactic(auto)]
 
-use libc::STDOUT_FILENO;
+use std::io::Read;
+use std::rt::Files;
+use std::{fs, io};
 
-// Prints the listing of the sheet in the file sheet.bin at width 32. A file that cannot be opened counts as empty: reading it gives no bytes.
+// Prints the listing of the sheet in the file sheet.bin at width 32. A file that cannot be opened counts as empty.
 // One byte more than a sheet may have is read, so that a longer file is seen and refused.
-fn print_file() {
-    let file = os::open_read(b"sheet.bin");
-    let mut sheet = [0u8; 4097];
-    let n = io::read_full(file, &mut sheet);
+fn print_file(rt: &(impl Files + Alloc + Print)) -> io::Result<()> {
+    let mut sheet = Vec::new(rt.alloc());
+    if let Ok(file) = fs::open(rt, "sheet.bin") {
+        file.take(4097).read_to_end(&mut sheet)?;
+    }
     let mut text = [0u8; listing::LONGEST_TEXT];
-    let end = listing::list(32, &sheet[..n], &mut text);
-    io::write_all(STDOUT_FILENO, &text[..end]);
+    let end = listing::list(32, &sheet, &mut text);
+    rt.write_all(&text[..end])
 }
 
-fn main() {
-    print_file();
+fn main(rt: HostRuntime) -> io::Result<()> {
+    print_file(&rt)
 }

@@ -5,30 +5,30 @@
 ghost use Rattle.std.specs.Prelude.{◌≡◌, length};
 
 use answer::Answer;
-use libc::STDOUT_FILENO;
+use std::io;
 
-fn print_answer(a: Answer) {
+fn print_answer(rt: &impl Print, a: Answer) -> io::Result<()> {
     match a {
         Answer::Done(n) => {
-            io::write_all(STDOUT_FILENO, b"done ");
-            io::print_decimal(STDOUT_FILENO, n);
+            rt.write_all(b"done ")?;
+            rt.print(n)?;
         }
         Answer::Refused(r, at) => {
-            io::write_all(STDOUT_FILENO, b"refused ");
-            io::print_decimal(STDOUT_FILENO, answer::refusal_number(r));
-            io::write_all(STDOUT_FILENO, b" ");
-            io::print_decimal(STDOUT_FILENO, at as u64);
+            rt.write_all(b"refused ")?;
+            rt.print(answer::refusal_number(r))?;
+            rt.write_all(b" ")?;
+            rt.print(at as u64)?;
         }
     }
-    io::write_all(STDOUT_FILENO, b"\n");
+    rt.write_all(b"\n")
 }
 
 // A forward run at width 32 over vectors of zeros.
-fn print_run(name: &[u8], sheet: &[u8]) {
-    io::write_all(STDOUT_FILENO, name);
-    io::write_all(STDOUT_FILENO, b": ");
+fn print_run(rt: &impl Print, name: &[u8], sheet: &[u8]) -> io::Result<()> {
+    rt.write_all(name)?;
+    rt.write_all(b": ")?;
     let mut vectors = [0u8; 256];
-    print_answer(run::run_forward(32, &mut vectors, sheet));
+    print_answer(rt, run::run_forward(32, &mut vectors, sheet))
 }
 
 // 06 00, as often as a sheet holds it.
@@ -62,26 +62,32 @@ const WIDE: [u8; 149] = [
     242, 247, 252, 1, 6, 11, 16, 21, 26, 31, 36, 41, 46, 51, 56, 61,
 ];
 
-fn print_same(a: &[u8], b: &[u8]) {
-    if check::same(a, b) {
-        io::write_all(STDOUT_FILENO, b"the starting bytes\n");
+fn print_same(rt: &impl Print, a: &[u8], b: &[u8]) -> io::Result<()> {
+    if a == b {
+        rt.write_all(b"the starting bytes\n")
     } else {
-        io::write_all(STDOUT_FILENO, b"other bytes\n");
+        rt.write_all(b"other bytes\n")
     }
 }
 
 // A sheet forward and backward, with what each run answers and leaves; `vectors` are those of `start`.
-fn print_round(width: u32, sheet: &[u8], start: &[u8], vectors: &mut [u8]) {
-    io::write_all(STDOUT_FILENO, b"there and back at width ");
-    io::print_decimal(STDOUT_FILENO, width as u64);
-    io::write_all(STDOUT_FILENO, b":\n");
-    print_answer(run::run_forward(width, vectors, sheet));
-    print_same(start, vectors);
-    print_answer(run::run_backward(width, vectors, sheet));
-    print_same(start, vectors);
+fn print_round(
+    rt: &impl Print,
+    width: u32,
+    sheet: &[u8],
+    start: &[u8],
+    vectors: &mut [u8],
+) -> io::Result<()> {
+    rt.write_all(b"there and back at width ")?;
+    rt.print(width as u64)?;
+    rt.write_all(b":\n")?;
+    print_answer(rt, run::run_forward(width, vectors, sheet))?;
+    print_same(rt, start, vectors)?;
+    print_answer(rt, run::run_backward(width, vectors, sheet))?;
+    print_same(rt, start, vectors)
 }
 
-fn narrow_round() {
+fn narrow_round(rt: &impl Print) -> io::Result<()> {
     let mut start = [7u8; 256];
     start[0] = 1;
     start[33] = 2;
@@ -92,10 +98,10 @@ fn narrow_round() {
     start[198] = 8;
     start[231] = 9;
     let mut vectors = start;
-    print_round(32, &NARROW, &start, &mut vectors);
+    print_round(rt, 32, &NARROW, &start, &mut vectors)
 }
 
-fn wide_round() {
+fn wide_round(rt: &impl Print) -> io::Result<()> {
     let mut start = [7u8; 512];
     start[0] = 1;
     start[65] = 2;
@@ -106,21 +112,21 @@ fn wide_round() {
     start[390] = 8;
     start[455] = 9;
     let mut vectors = start;
-    print_round(64, &WIDE, &start, &mut vectors);
+    print_round(rt, 64, &WIDE, &start, &mut vectors)
 }
 
-fn main() {
+fn main(rt: HostRuntime) -> io::Result<()> {
     let mut cut = [1u8; 33];
     cut[0] = 7;
     cut[1] = 0;
-    print_run(b"K of 31 bytes", &cut);
+    print_run(&rt, b"K of 31 bytes", &cut)?;
     let mut whole = [1u8; 34];
     whole[0] = 7;
     whole[1] = 0;
-    print_run(b"K of 32 bytes", &whole);
-    print_run(b"one flip", &[6u8, 0]);
-    print_run(b"2,048 flips", &flips());
-    print_run(b"4,097 bytes", &[6u8; 4097]);
-    narrow_round();
-    wide_round();
+    print_run(&rt, b"K of 32 bytes", &whole)?;
+    print_run(&rt, b"one flip", &[6u8, 0])?;
+    print_run(&rt, b"2,048 flips", &flips())?;
+    print_run(&rt, b"4,097 bytes", &[6u8; 4097])?;
+    narrow_round(&rt)?;
+    wide_round(&rt)
 }
