@@ -2,19 +2,16 @@
 // contract can say; what is printed for the bytes that were read is the crate `distance_report`'s to say.
 #![tactic(auto)]
 
-use std::io::Read;
 use std::rt::Files;
-use std::{fs, io};
+use std::io;
 
 // Prints the report on the records in the file pairs.bin. A file that cannot be opened counts as empty. One byte more than records may have is read, so that
 // a longer file is seen and refused.
-fn print_file(rt: &(impl Files + Alloc + Print)) -> io::Result<()> {
-    let mut records = Vec::new(rt.alloc());
-    if let Ok(file) = fs::open(rt, "pairs.bin") {
-        file.take(65537).read_to_end(&mut records)?;
-    }
+fn print_file(rt: &(impl Files + Print)) -> io::Result<()> {
+    let mut records = [0u8; 65537];
+    let n = input::read_file(rt, "pairs.bin", &mut records)?;
     let mut text = [0u8; distance_report::LONGEST_TEXT];
-    let end = distance_report::report(&records, &mut text);
+    let end = distance_report::report(&records[..n], &mut text);
     rt.write_all(&text[..end])
 }
 

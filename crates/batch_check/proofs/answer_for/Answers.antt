@@ -1,5 +1,6 @@
 use native.Mathlib.Omega.{arith}
 use borrow.Author.Rules.{rules}
+use borrow.Author.Tests.{eq-eqb, le-leb, lt-leb, ne_eqb}
 use Rattle.batch.proofs.Ended.{ends_unknown, ends_many, few_bytes, ends_other, ends_short, ends_room}
 use mathlib.Core.Path.{ap}
 use mathlib.Core.Bool.{not}
@@ -13,30 +14,30 @@ returns-then-not-known c =
 pub returns-then-not-few : goal.returns-then-not-few
 returns-then-not-few c =
     let a = c.args in
-    ends_many a.size a.joined a.lengths.now a.room c.is_known-known.ensures c.total_length-sum.ensures (ap not c.if-not-known.false) (ap not c.if-not-few.true)
+    ends_many a.size a.joined a.lengths.now a.room c.is_known-known.ensures c.total_length-sum.ensures (ap not c.if-not-known.false) (ap not (lt-leb _ _ c.if-not-few.true))
 
 pub returns-then-not-whole : goal.returns-then-not-whole
 returns-then-not-whole c =
     let a = c.args in
-    ends_other a.size a.joined a.lengths.now a.room c.is_known-known.ensures c.total_length-sum.ensures (ap not c.if-not-known.false) (ap not c.if-not-few.false)
-    (ap not c.if-not-whole.true)
+    ends_other a.size a.joined a.lengths.now a.room c.is_known-known.ensures c.total_length-sum.ensures (ap not c.if-not-known.false) (ap not (le-leb _ _ c.if-not-few.false))
+    (ap not (ne_eqb _ _ c.if-not-whole.true))
 
 pub overflow_mul-written : goal.overflow_mul-written
 overflow_mul-written c =
     let a = c.args in
     omega (
       arith,
-      few_bytes a.size a.joined a.lengths.now a.room c.is_known-known.ensures c.total_length-sum.ensures (ap not c.if-not-known.false) (ap not c.if-not-few.false),
+      few_bytes a.size a.joined a.lengths.now a.room c.is_known-known.ensures c.total_length-sum.ensures (ap not c.if-not-known.false) (ap not (le-leb _ _ c.if-not-few.false)),
     )
 
 pub returns-then-room-written : goal.returns-then-room-written
 returns-then-room-written c =
     let a = c.args in
-    ends_short a.size a.joined a.lengths.now a.room c.is_known-known.ensures c.total_length-sum.ensures (ap not c.if-not-known.false) (ap not c.if-not-few.false)
-    (ap not c.if-not-whole.false) c.if-room-written.true
+    ends_short a.size a.joined a.lengths.now a.room c.is_known-known.ensures c.total_length-sum.ensures (ap not c.if-not-known.false) (ap not (le-leb _ _ c.if-not-few.false))
+    (ap not (eq-eqb _ _ c.if-not-whole.false)) c.if-room-written.true
 
 pub returns : goal.returns
 returns c =
     let a = c.args in
-    ends_room a.size a.joined a.lengths.now a.room c.is_known-known.ensures c.total_length-sum.ensures (ap not c.if-not-known.false) (ap not c.if-not-few.false)
-    (ap not c.if-not-whole.false) c.if-room-written.false
+    ends_room a.size a.joined a.lengths.now a.room c.is_known-known.ensures c.total_length-sum.ensures (ap not c.if-not-known.false) (ap not (le-leb _ _ c.if-not-few.false))
+    (ap not (eq-eqb _ _ c.if-not-whole.false)) c.if-room-written.false

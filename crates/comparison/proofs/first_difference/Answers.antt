@@ -46,7 +46,7 @@ loop-i-preserved c =
     let g = goes_on a.width a.records.now a.from a.state.now c.loop-i.first c.loop-i.i c.loop-i.invariant
     c.loop-i-test.true c.word_at-found.ensures c.word_at-expected.ensures in
     elim c.if-found-expected.branch [
-      then-found-expected w ↦ rw w.first-is (h w.if-found-expected.true)
+      | then-found-expected w ↦ rw w.first-is (h w.if-found-expected.true)
       | else-found-expected w ↦ rw w.first-is (g w.if-found-expected.false)
     ]
 

@@ -29,11 +29,10 @@ returns-in-Done c =
     let last : Pushed c.push_lines-at.new.out c.push_lines-at.result end c.push_total.new.out c.push_total.result = c.push_total.ensures.pushed in
     let f = finished (then c.push_lines-at.ensures.pushed last)
     (reported a.records.now _ _ (sym c.in-Done.is ∙ c.flipped_bits.ensures.value) c.flipped_bits.ensures.counts_after) in
-    let both = (f.0, (f.1, omega (arith, c.push_lines-at.ensures.upper_bound, c.push_total.ensures.upper_bound))) in
     record {
-      out_after = both.0;
-      value = both.1;
-      upper_bound = both.2;
+      out_after = f.0;
+      value = f.1;
+      upper_bound = omega (arith, c.push_lines-at.ensures.upper_bound, c.push_total.ensures.upper_bound);
     }
 
 pub returns-in-Refused : goal.returns-in-Refused
@@ -41,9 +40,8 @@ returns-in-Refused c =
     let a = c.args in
     let f = finished c.push_refusal.ensures.pushed
     (reported_refusal a.records.now c.in-Refused.r c.in-Refused.field-1 (sym c.in-Refused.is ∙ c.flipped_bits.ensures.value)) in
-    let both = (f.0, (f.1, omega (arith, c.push_refusal.ensures.upper_bound))) in
     record {
-      out_after = both.0;
-      value = both.1;
-      upper_bound = both.2;
+      out_after = f.0;
+      value = f.1;
+      upper_bound = omega (arith, c.push_refusal.ensures.upper_bound);
     }

@@ -1,4 +1,5 @@
 use borrow.Author.Rules.{rules}
+use borrow.Author.Tests.{le-leb, lt-leb}
 use Rattle.hamming.proofs.Ended.{ends_not_whole, ends_short, asked, ends_counted}
 use mathlib.Core.Path.{ap}
 use mathlib.Core.Bool.{not}
@@ -16,7 +17,7 @@ returns-then-not-whole c =
 pub returns-then-not-room : goal.returns-then-not-room
 returns-then-not-room c =
     let a = c.args in
-    let both = ends_short a.records.now a.counts.now c.whole_pairs-whole.ensures (ap not c.if-not-whole.false) (ap not c.if-not-room.true) in
+    let both = ends_short a.records.now a.counts.now c.whole_pairs-whole.ensures (ap not c.if-not-whole.false) (ap not (lt-leb _ _ c.if-not-room.true)) in
     record {
       value = both.0;
       counts_after = both.1;
@@ -25,12 +26,12 @@ returns-then-not-room c =
 pub count_records-requires : goal.count_records-requires
 count_records-requires c =
     let a = c.args in
-    asked a.records.now a.counts.now c.whole_pairs-whole.ensures (ap not c.if-not-whole.false) (ap not c.if-not-room.false)
+    asked a.records.now a.counts.now c.whole_pairs-whole.ensures (ap not c.if-not-whole.false) (ap not (le-leb _ _ c.if-not-room.false))
 
 pub returns : goal.returns
 returns c =
     let a = c.args in
-    let both = ends_counted a.records.now a.counts.now c.whole_pairs-whole.ensures (ap not c.if-not-whole.false) (ap not c.if-not-room.false) c.count_records.ensures.value c.count_records.ensures.counts_after in
+    let both = ends_counted a.records.now a.counts.now c.whole_pairs-whole.ensures (ap not c.if-not-whole.false) (ap not (le-leb _ _ c.if-not-room.false)) c.count_records.ensures.value c.count_records.ensures.counts_after in
     record {
       value = both.0;
       counts_after = both.1;

@@ -7,9 +7,8 @@ use Rattle.edonr.proofs.edonr_unshuffle.Goals as goal
 
 pub returns : goal.returns
 returns c =
-    let both = (c.marked_number.ensures ∙ ap marked_number c.unshuffle.ensures.value, (c.unshuffle.ensures.out_after.0, subst (Fits (2 ^ 63)) c.unshuffle.ensures.value c.unshuffle.ensures.out_after.1)) in
     record {
-      value = both.0;
-      out_after = both.1;
-      fits = both.2;
+      value = c.marked_number.ensures ∙ ap marked_number c.unshuffle.ensures.value;
+      out_after = c.unshuffle.ensures.out_after;
+      fits = subst (Fits (2 ^ 63)) c.unshuffle.ensures.value c.unshuffle.ensures.fits;
     }

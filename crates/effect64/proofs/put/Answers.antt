@@ -8,5 +8,5 @@ use Rattle.effect64.proofs.put.Goals as goal
 pub returns : goal.returns
 returns c =
     let a = c.args in
-    place_written w64 bytewise_64 a.vectors.now (λ i. omega (arith, c.type_inv.vectors i)) c.requires.0 a.i c.requires.1
+    place_written w64 bytewise_64 a.vectors.now (λ i. search rules) c.requires.0 a.i c.requires.1
     a.x (search rules) (λ i. search rules) c.store_vector.ensures

@@ -29,9 +29,6 @@ slice_bounds-expected-end c =
     let p = tested a.size a.key.now a.message.now a.tag.now c.keying-answer.ensures c.is_done.ensures (ap not c.if-not-is_done.false) in
     omega (arith, l, known_bound a.size p.0)
 
-pub slice_bounds-same-end : goal.slice_bounds-same-end
-slice_bounds-same-end c = sym (length-take-le _ _ (array-share-prefix-expected c))
-
 pub returns-then-same : goal.returns-then-same
 returns-then-same c =
     let a = c.args in

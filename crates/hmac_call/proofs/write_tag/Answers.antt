@@ -15,24 +15,15 @@ slice_bounds-inner-end c =
     let l : length c.padded-inner.result ≡ 128 = search rules in
     omega (arith, l, c.block_length-block.ensures, block_most c.args.size)
 
-pub slice_bounds-digest-end : goal.slice_bounds-digest-end
-slice_bounds-digest-end c = sym (length-take-le _ _ (array-share-prefix-inner c))
-
 pub slice_bounds-outer-end : goal.slice_bounds-outer-end
 slice_bounds-outer-end c =
     let l : length c.padded-outer.result ≡ 128 = search rules in
     omega (arith, l, c.block_length-block.ensures, block_most c.args.size)
 
-pub slice_bounds-digest-end-3 : goal.slice_bounds-digest-end-3
-slice_bounds-digest-end-3 c = sym (length-take-le _ _ (array-share-prefix-outer c))
-
 pub slice_bounds-digest-end-4 : goal.slice_bounds-digest-end-4
 slice_bounds-digest-end-4 c =
     let l : length c.digest.new.out ≡ 64 = search rules in
     omega (arith, l, known_bound c.args.size c.requires.0)
-
-pub slice_bounds-digest-end-5 : goal.slice_bounds-digest-end-5
-slice_bounds-digest-end-5 c = sym (length-take-le _ _ (array-share-prefix-digest c))
 
 pub returns : goal.returns
 returns c =

@@ -15,20 +15,18 @@ pub returns-in-Whole : goal.returns-in-Whole
 returns-in-Whole c =
     let a = c.args in
     let f = finished (then c.push_lines-at.ensures.fact c.push_end.ensures.pushed) (listed_whole a.width a.sheet.now (sym c.in-Whole.is ∙ c.check.ensures.value)) in
-    let both = (f.0, (f.1, omega (arith, c.push_lines-at.ensures.upper_bound, c.push_end.ensures.upper_bound))) in
     record {
-      out_after = both.0;
-      value = both.1;
-      upper_bound = both.2;
+      out_after = f.0;
+      value = f.1;
+      upper_bound = omega (arith, c.push_lines-at.ensures.upper_bound, c.push_end.ensures.upper_bound);
     }
 
 pub returns-in-Faulty : goal.returns-in-Faulty
 returns-in-Faulty c =
     let a = c.args in
     let f = finished c.push_refused.ensures.pushed (listed_faulty a.width a.sheet.now c.in-Faulty.r c.in-Faulty.at (sym c.in-Faulty.is ∙ c.check.ensures.value)) in
-    let both = (f.0, (f.1, omega (arith, c.push_refused.ensures.upper_bound))) in
     record {
-      out_after = both.0;
-      value = both.1;
-      upper_bound = both.2;
+      out_after = f.0;
+      value = f.1;
+      upper_bound = omega (arith, c.push_refused.ensures.upper_bound);
     }

@@ -13,7 +13,7 @@ pub returns : goal.returns
 unfolding opened
 returns c =
     let a = c.args in
-    let o = c.«open».ensures in
+    let o = c.open-r.ensures in
     let n = c.number-number.ensures ∙ ap (λ (o : Outcome). number_of o.answer) o in
     let s = c.wide_outcome-state.ensures ∙ ap (λ (o : Outcome). outcome o.answer o.state a.hash) o
     ∙ outcome_again (open_answer wide_kind a.size) wide_of (started wide_kind a.size) (zeros wide_kind) a.hash in

@@ -42,8 +42,8 @@ returns-in-Fault c =
     let both = faulty a.width a.sheet.now a.start c.loop-d.invariant.1 c.in-Fault.r e (fault_inside a.width a.sheet.now c.loop-d.at e) in
     record {
       summary_value = both.0;
-      starts_value = both.1;
-      offsets_after = both.2;
+      starts_value = both.1.0;
+      offsets_after = both.1.1;
     }
 
 pub shape_of-offsets-in-End : goal.shape_of-offsets-in-End
@@ -55,6 +55,6 @@ returns-in-End c =
     let both = ended a.width a.sheet.now a.start c.loop-d.invariant.1 (sym c.read_command.ensures ∙ c.in-End.is) in
     record {
       summary_value = both.0;
-      starts_value = both.1;
-      offsets_after = both.2;
+      starts_value = both.1.0;
+      offsets_after = both.1.1;
     }

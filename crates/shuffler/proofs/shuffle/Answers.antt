@@ -11,8 +11,8 @@ returns-then-not-is_done c =
     let both = refused shuffled_record a.width a.records.now a.out.now (c.answer_for-r.ensures.value, c.answer_for-r.ensures.fits) c.is_done.ensures (ap not c.if-not-is_done.true) in
     record {
       value = both.0;
-      out_after = both.1;
-      fits = both.2;
+      out_after = both.1.0;
+      fits = both.1.1;
     }
 
 pub shuffle_records-requires : goal.shuffle_records-requires
@@ -27,6 +27,6 @@ returns c =
     c.shuffle_records.ensures in
     record {
       value = both.0;
-      out_after = both.1;
-      fits = both.2;
+      out_after = both.1.0;
+      fits = both.1.1;
     }

@@ -4,19 +4,17 @@ use Rattle.slicer.proofs.run_slice.Goals as goal
 
 pub returns-then-width-eq32 : goal.returns-then-width-eq32
 returns-then-width-eq32 c =
-    let both = rw c.if-width-eq32.true (c.slice_at.ensures.value, c.slice_at.ensures.vectors_after) in
-    record {
-      value = both.0;
-      vectors_after = both.1;
-    }
+    rw c.if-width-eq32.true (record {
+      value = c.slice_at.ensures.value;
+      vectors_after = c.slice_at.ensures.vectors_after;
+    })
 
 pub returns-then-width-eq64 : goal.returns-then-width-eq64
 returns-then-width-eq64 c =
-    let both = rw c.if-width-eq64.true (c.slice_at-then-width-eq64.ensures.value, c.slice_at-then-width-eq64.ensures.vectors_after) in
-    record {
-      value = both.0;
-      vectors_after = both.1;
-    }
+    rw c.if-width-eq64.true (record {
+      value = c.slice_at-then-width-eq64.ensures.value;
+      vectors_after = c.slice_at-then-width-eq64.ensures.vectors_after;
+    })
 
 pub returns : goal.returns
 returns c =

@@ -9,7 +9,7 @@ use Rattle.two_parts.proofs.wide_digest.Goals as goal
 pub returns-then-not-is_done : goal.returns-then-not-is_done
 returns-then-not-is_done c =
     let a = c.args in
-    let both = opening_refused wide_sized a.size a.first.now a.second.now a.out.now (opened_parts _ o.«open».ensures) c.is_done.ensures
+    let both = opening_refused wide_sized a.size a.first.now a.second.now a.out.now (opened_parts _ c.open-o.ensures) c.is_done.ensures
     (ap not c.if-not-is_done.true) in
     record {
       value = both.0;
@@ -19,7 +19,7 @@ returns-then-not-is_done c =
 pub returns-then-not-is_done-2 : goal.returns-then-not-is_done-2
 returns-then-not-is_done-2 c =
     let a = c.args in
-    let both = first_refused wide_sized a.size a.first.now a.second.now a.out.now (opened_parts _ o.«open».ensures) c.is_done.ensures
+    let both = first_refused wide_sized a.size a.first.now a.second.now a.out.now (opened_parts _ c.open-o.ensures) c.is_done.ensures
     (ap not c.if-not-is_done.false) (fed_parts _ _ c.feed-f.ensures) c.is_done-2.ensures (ap not c.if-not-is_done-2.true) in
     record {
       value = both.0;
@@ -29,7 +29,7 @@ returns-then-not-is_done-2 c =
 pub returns-then-not-is_done-3 : goal.returns-then-not-is_done-3
 returns-then-not-is_done-3 c =
     let a = c.args in
-    let both = second_refused wide_sized a.size a.first.now a.second.now a.out.now (opened_parts _ o.«open».ensures) c.is_done.ensures
+    let both = second_refused wide_sized a.size a.first.now a.second.now a.out.now (opened_parts _ c.open-o.ensures) c.is_done.ensures
     (ap not c.if-not-is_done.false) (fed_parts _ _ c.feed-f.ensures) c.is_done-2.ensures (ap not c.if-not-is_done-2.false) (fed_parts _ _ c.feed-g.ensures) c.is_done-3.ensures
     (ap not c.if-not-is_done-3.true) in
     record {
@@ -40,7 +40,7 @@ returns-then-not-is_done-3 c =
 pub returns : goal.returns
 returns c =
     let a = c.args in
-    let both = both_fed wide_sized a.size a.first.now a.second.now a.out.now (opened_parts _ o.«open».ensures) c.is_done.ensures
+    let both = both_fed wide_sized a.size a.first.now a.second.now a.out.now (opened_parts _ c.open-o.ensures) c.is_done.ensures
     (ap not c.if-not-is_done.false) (fed_parts _ _ c.feed-f.ensures) c.is_done-2.ensures (ap not c.if-not-is_done-2.false) (fed_parts _ _ c.feed-g.ensures) c.is_done-3.ensures
     (ap not c.if-not-is_done-3.false) 0 (c.finish.ensures.value, c.finish.ensures.out_after) in
     record {
