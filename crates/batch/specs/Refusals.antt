@@ -1,5 +1,5 @@
 -- Document 02, Paper 2, in its words: what the call refuses. The statement; proofs/Refusals.antt shows it.
-use Rattle.std.specs.Prelude.{◌≡◌, true, false, List, [], ℕ, ◌≤◌, ◌<◌, length}
+use Rattle.std.specs.Prelude.{◌≡◌, false, List, [], ℕ, ◌≤◌, ◌<◌, length}
 use Rattle.answer.specs.declared.Answer.TheVariants.{Done, Refused}
 use Rattle.answer.specs.declared.Refusal.TheVariants.{Size, Length, MessageCount, JoinedLength, Output}
 use Rattle.answer.specs.Refuse.{is_done}

@@ -9,7 +9,7 @@ use Rattle.digest.specs.Blocks.{compressed, rest, filled}
 use Rattle.answer.specs.Refuse.{outcome}
 use Rattle.digest.specs.Refusals.{feeding, finishing, finishing_bits}
 use Rattle.digest.specs.Kind.{Kind, narrow_kind, wide_kind}
-use Rattle.digest.specs.State.{Hash, pending, advanced, feed_answer, closed, cut, finish_answer, finish_out, finish_bits_answer, finish_bits_out}
+use Rattle.digest.specs.State.{Hash, advanced, feed_answer, closed, cut, finish_answer, finish_out, finish_bits_answer, finish_bits_out}
 use Rattle.digest.specs.Waiting.{Alike, Waiting}
 use Rattle.digest.proofs.Feeding.{held, clean, held_opened, clean_opened}
 

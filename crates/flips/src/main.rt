@@ -2,8 +2,8 @@
 // contract can say; what is printed for the bytes that were read is the crate `distance_report`'s to say.
 #![tactic(auto)]
 
-use std::rt::Files;
 use std::io;
+use std::rt::Files;
 
 // Prints the report on the records in the file pairs.bin. A file that cannot be opened counts as empty. One byte more than records may have is read, so that
 // a longer file is seen and refused.

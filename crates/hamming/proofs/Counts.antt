@@ -1,10 +1,10 @@
 -- One count after the other, and their sum.
 use mathlib.Core.Path.{◌≡◌, refl, ap, ap₂, sym, ◌∙◌}
-use mathlib.Core.List.{List, [], ◌∷◌, ◌++◌, sum}
+use mathlib.Core.List.{List, ◌∷◌, ◌++◌, sum}
 use Prim.Native.Nat.{ℕ, zero, suc, ◌+◌, ◌-◌, ◌*◌, ◌≤◌, ◌<◌}
 use native.Mathlib.Numerals.{add-one}
 use native.Mathlib.Omega.{arith}
-use lib.ListN.{length, get_or, set, take, drop, length-set}
+use lib.ListN.{length, get_or, set, drop, length-set}
 use lib.Seq.{sets}
 use Rattle.memory.proofs.Lists.{front, taken_short}
 use Rattle.memory.specs.Lists.{total}

@@ -1,6 +1,4 @@
 -- The answers are small: a tag's length, at most 64, and yes or no.
-use mathlib.Core.Bool.{true, false, cond}
-use mathlib.Core.List.{List}
 use Prim.Native.Nat.{ℕ, ◌/◌, ◌^◌, ◌<◌}
 use native.Mathlib.Omega.{arith}
 use lib.Dec.{leb, lit<}

@@ -1,10 +1,8 @@
 -- K0 by the length of the key, and how long it and a tag are.
 use mathlib.Core.Path.{◌≡◌, refl, ap, sym, ◌∙◌}
-use mathlib.Core.Bool.{Bool, true, false, cond}
-use mathlib.Core.List.{List, [], ◌∷◌, ◌++◌, append-nil}
+use mathlib.Core.List.{List, ◌++◌, append-nil}
 use Prim.Native.Nat.{ℕ, ◌-◌, ◌/◌, ◌≤◌, ◌<◌}
 use native.Mathlib.Decide.{dec_le}
-use native.Mathlib.Nat.{sub_self}
 use native.Mathlib.Omega.{arith}
 use borrow.Author.Tests.{eq-eqb, ne_eqb, lt-ltb, le-ltb}
 use lib.Dec.{lit≤}
@@ -15,7 +13,7 @@ use Rattle.digest.specs.Kind.{Kind, known_size, narrow_kind, wide_kind, Known}
 use Rattle.digest.specs.OneCall.{digest_for}
 use Rattle.digest.proofs.Answers.{known_bound}
 use Rattle.digest.proofs.Length.{digest_length}
-use Rattle.hmac.specs.Hmac.{xored, key_block, opad, hmac, inner_hash, block_for, hmac_for}
+use Rattle.hmac.specs.Hmac.{xored, key_block, opad, inner_hash, block_for, hmac_for}
 use Rattle.hmac.specs.KeyBlock.{key_block_for, KeyBlocks, BlockLengths, KeyBlocksOfSizes}
 
 -- a block holds the longest tag, and is at most that of the wide kind

@@ -1,5 +1,5 @@
 -- What the two calls refuse.
-use mathlib.Core.Path.{◌≡◌, refl, ap, sym, ◌∙◌}
+use mathlib.Core.Path.{ap, sym, ◌∙◌}
 use mathlib.Core.List.{List, ◌++◌}
 use Prim.Native.Nat.{ℕ, ◌/◌}
 use borrow.Author.Tests.{le-leb, lt-leb}
@@ -8,7 +8,7 @@ use Rattle.answer.specs.Refuse.{is_done}
 use Rattle.answer.proofs.Refuse.{refused_outcome}
 use Rattle.digest.specs.Refusals.{delivering}
 use Rattle.hmac.specs.Hmac.{hmac_for}
-use Rattle.hmac.specs.Calls.{hmac_answer, verify_answer}
+use Rattle.hmac.specs.Calls.{hmac_answer}
 use Rattle.hmac.specs.Refusals.{MakingRefuses, VerifyingRefuses, HmacRefuses}
 use Rattle.hmac.proofs.Tests.{is_fitting, passed, both_refuse}
 

@@ -1,5 +1,5 @@
 -- The code's way to a tag, by two digests of two parts each, and to the answer of a comparison.
-use mathlib.Core.Path.{◌≡◌, refl, ap, ap₂, sym, ◌∙◌}
+use mathlib.Core.Path.{◌≡◌, ap, ap₂, sym, ◌∙◌}
 use mathlib.Core.Bool.{Bool, true, false, not, cond}
 use mathlib.Core.List.{List, [], ◌∷◌, ◌++◌}
 use Prim.Native.Nat.{ℕ, ◌+◌, ◌/◌, ◌≤◌}
@@ -16,7 +16,7 @@ use Rattle.digest.specs.OneCall.{digest_for, one_call_out}
 use Rattle.digest.proofs.Answers.{known_bound}
 use Rattle.digest.proofs.OneCall.{one_call_writes}
 use Rattle.digest.proofs.Length.{digest_length}
-use Rattle.hmac.specs.Hmac.{xored, ipad, opad, inner_hash, block_for, hmac_for}
+use Rattle.hmac.specs.Hmac.{xored, inner_hash, block_for, hmac_for}
 use Rattle.hmac.specs.KeyBlock.{key_block_for}
 use Rattle.hmac.specs.Calls.{same, fitting, keying, verify_answer}
 use Rattle.hmac.specs.Refusals.{Fitting}

@@ -1,27 +1,26 @@
 -- Yes, exactly when the tag is the true one.
-use mathlib.Core.Path.{◌≡◌, refl, ap, sym, ◌∙◌}
+use mathlib.Core.Path.{◌≡◌, ap, sym, ◌∙◌}
 use mathlib.Core.Bool.{Bool, true, false, cond}
 use mathlib.Core.List.{List, ◌++◌}
-use Prim.Native.Nat.{ℕ, ◌+◌, ◌*◌, ◌/◌, ◌^◌, ◌≤◌}
+use Prim.Native.Nat.{ℕ, ◌/◌, ◌^◌, ◌≤◌}
 use native.Mathlib.Omega.{arith}
 use lib.ListN.{length, take, drop}
 use lib.Seq.{take-append_seam}
 use Rattle.answer.specs.declared.Answer.{Answer}
-use Rattle.answer.specs.declared.Answer.TheVariants.{Done, Refused}
-use Rattle.answer.specs.declared.Refusal.{Refusal}
+use Rattle.answer.specs.declared.Answer.TheVariants.{Done}
 use Rattle.answer.specs.declared.Refusal.TheVariants.{Size, Length}
-use Rattle.answer.specs.Number.{number_of, refusal_number}
-use Rattle.answer.specs.Refuse.{is_done, outcome}
+use Rattle.answer.specs.Number.{number_of}
+use Rattle.answer.specs.Refuse.{is_done}
 use Rattle.answer.proofs.Refuse.{done_outcome, unless_cases}
 use Rattle.answer.proofs.Tests.{decide}
 use Rattle.digest.specs.Kind.{known_size, kind_for, Known}
 use Rattle.hmac.specs.Hmac.{hmac_for}
-use Rattle.hmac.specs.Calls.{same, fitting, keying, hmac_answer, hmac_out, verify_answer}
+use Rattle.hmac.specs.Calls.{same, fitting, hmac_answer, hmac_out, verify_answer}
 use Rattle.hmac.specs.Refusals.{Fitting}
 use Rattle.hmac.specs.Yes.{TrueTag, Yes, YesExactly}
 use Rattle.hmac.proofs.KeyBlock.{tag_length}
 use Rattle.hmac.proofs.Same.{same_equal, equal_same, unequal_same}
-use Rattle.hmac.proofs.Tests.{is_fitting, fitting_is, passed, Accepted, accepted}
+use Rattle.hmac.proofs.Tests.{is_fitting, fitting_is, passed, accepted}
 
 module _ (n : ℕ) (key text tag : List ℕ) where
   abbrev found : Answer

@@ -1,6 +1,6 @@
 -- Document 02, Paper 6, and FIPS 198-1, section 4: "a key longer than a block is digested first", and one of exactly a block is not. K0 by the length of the
 -- key, and how long it and a tag are. The statement, for the four sizes; proofs/KeyBlock.antt shows it.
-use Rattle.std.specs.Prelude.{◌≡◌, List, ◌++◌, ℕ, ◌-◌, ◌/◌, ◌<◌, ◌≤◌, length, replicate}
+use Rattle.std.specs.Prelude.{◌≡◌, List, ◌++◌, ℕ, ◌-◌, ◌/◌, ◌<◌, length, replicate}
 use Rattle.digest.specs.Kind.{Known}
 use Rattle.digest.specs.OneCall.{digest_for}
 use Rattle.hmac.specs.Hmac.{key_block, block_for, hmac_for}

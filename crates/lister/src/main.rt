@@ -2,8 +2,8 @@
 // output no contract can say; what is printed for the bytes that were read is the crate `listing`'s to say.
 #![tactic(auto)]
 
-use std::rt::Files;
 use std::io;
+use std::rt::Files;
 
 // Prints the listing of the sheet in the file sheet.bin at width 32. A file that cannot be opened counts as empty.
 // One byte more than a sheet may have is read, so that a longer file is seen and refused.

@@ -75,10 +75,10 @@ length_add [] (y ∷ q) e = absurd (suc-ne-zero (length q) (sym e))
 length_add (x ∷ p) [] e = refl
 length_add (x ∷ p) (y ∷ q) e = ap suc (length_add p q (suc_inj e))
 
-pub get_d-below : {m : ℕ} {v : List ℕ} → 0 < m → Below m v → (i : ℕ) → get_or v i 0 < m
-get_d-below h none i = h
-get_d-below h (more l b) zero = l
-get_d-below h (more l b) (suc i) = get_d-below h b i
+pub get_or-below : {m : ℕ} {v : List ℕ} → 0 < m → Below m v → (i : ℕ) → get_or v i 0 < m
+get_or-below h none i = h
+get_or-below h (more l b) zero = l
+get_or-below h (more l b) (suc i) = get_or-below h b i
 
 -- the same from what is known of each element
 pub below_of : (m : ℕ) (v : List ℕ) → ((i : ℕ) → i < length v → get_or v i 0 < m) → Below m v
@@ -112,7 +112,7 @@ module _ (w : ℕ) where
 
   gather_lt : {v : List ℕ} → Below (2 ^ w) v → (p : List ℕ) → fold bit_xor (pick p v) < 2 ^ w
   gather_lt b [] = pow_pos w
-  gather_lt {v} b (i ∷ p) = xor_lt w (get_or v i 0) (fold bit_xor (pick p v)) (get_d-below (pow_pos w) b i) (gather_lt b p)
+  gather_lt {v} b (i ∷ p) = xor_lt w (get_or v i 0) (fold bit_xor (pick p v)) (get_or-below (pow_pos w) b i) (gather_lt b p)
 
   gathers_below : {v : List ℕ} → Below (2 ^ w) v → (P : List (List ℕ)) → Below (2 ^ w) (gathers bit_xor P v)
   gathers_below b [] = none

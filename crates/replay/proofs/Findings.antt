@@ -31,7 +31,7 @@ use Rattle.shuffle.specs.Shuffle.{record_length, record_words}
 use Rattle.shuffle.proofs.Widths.{sized, records_within}
 use Rattle.replay.specs.declared.Finding.{Finding}
 use Rattle.replay.specs.declared.ReplayAnswer.{ReplayAnswer}
-use Rattle.replay.specs.declared.ReplayAnswer.TheVariants.{Holds, FirstFalse, Refused}
+use Rattle.replay.specs.declared.ReplayAnswer.TheVariants.{Holds, FirstFalse}
 use Rattle.replay.specs.Difference.{words_in_order, record_at, agreeing, same_words, difference}
 use Rattle.replay.specs.Replay.{state_by, recorded, replayed, first_false, record_count, record_tests, replay_tests, answered, is_refused}
 use Rattle.replay.specs.Findings.{record_bytes, record_word, state_bytes, state_word, IsTrue, AllTrue, Named, Says}

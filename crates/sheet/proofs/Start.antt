@@ -1,7 +1,7 @@
 -- The offsets of a sheet's commands: they lie in the sheet; from each on, and from the sheet's end, the commands that remain are the sheet's last ones; and
 -- the offsets that a run from 0 reaches are these.
 use mathlib.Core.Path.{◌≡◌, refl, sym, ap, subst, ◌∙◌}
-use mathlib.Core.Bool.{true, false, ◌||◌, false≢true}
+use mathlib.Core.Bool.{true, ◌||◌, false≢true}
 use mathlib.Core.List.{List, [], ◌∷◌, ◌++◌, append-nil}
 use Prim.Native.Nat.{ℕ, zero, suc, ◌≤◌, ◌<◌}
 use native.Mathlib.Decide.{dec_le}

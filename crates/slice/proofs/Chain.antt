@@ -25,7 +25,7 @@ use Rattle.sheet.specs.Start.{is_start, then_start}
 use Rattle.sheet.proofs.Lent.{State, state_length, vectors_bytes, bytes_vectors}
 use Rattle.sheet.proofs.RoundTrip.{there_and_back, same_answer}
 use Rattle.sheet.proofs.SheetAnswer.{Passed, passes}
-use Rattle.sheet.proofs.Progress.{after_after, done, reaches}
+use Rattle.sheet.proofs.Progress.{after_after, reaches}
 use Rattle.sheet.proofs.Start.{suffix, reached_start, first_start, end_only}
 use Rattle.sheet.proofs.FromStart.{state_after_lem, offset_by, end_units, end_vectors}
 use Rattle.slice.specs.declared.SliceAnswer.TheVariants.{Reached, Refused}

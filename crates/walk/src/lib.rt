@@ -1,2 +1,2 @@
-// The proofs in the program logic, in proofs/, of the thin functions over a lent struct: one walk for each shape. There is no code here.
+// Laws for proofs about thin functions over a lent struct. The prover walks the code of such functions by itself, so none is needed. There is no code here.
 #![tactic(auto)]

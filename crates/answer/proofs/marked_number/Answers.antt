@@ -1,4 +1,3 @@
-use borrow.Author.Rules.{rules}
 use Rattle.answer.proofs.marked_number.Goals as goal
 
 pub returns-in-Refused : goal.returns-in-Refused

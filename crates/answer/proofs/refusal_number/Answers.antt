@@ -3,7 +3,6 @@ use Prim.Native.Nat.{◌<◌}
 use lib.Dec.{lit≤}
 use Rattle.answer.specs.declared.Refusal.{Refusal}
 use Rattle.answer.specs.Number.{refusal_number}
-use borrow.Author.Rules.{rules}
 use Rattle.answer.proofs.refusal_number.Goals as goal
 
 -- the arm of the refusal s, where r is that one

@@ -1,8 +1,5 @@
-use Prim.Native.Nat.{◌-◌}
 use native.Mathlib.Omega.{arith}
-use borrow.Author.Rules.{rules}
-use lib.ListN.{length}
-use Rattle.batch.proofs.Progress.{Progress, begin, starts, end, within, inside, next}
+use Rattle.batch.proofs.Progress.{begin, starts, end, within, inside, next}
 use Rattle.batch_call.proofs.digest_each.Goals as goal
 
 pub loop-k-init : goal.loop-k-init

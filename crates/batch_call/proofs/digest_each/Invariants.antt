@@ -1,8 +1,6 @@
 use Prim.Native.Nat.{◌-◌}
-use native.Mathlib.Omega.{arith}
-use borrow.Author.Rules.{rules}
 use lib.ListN.{length}
-use Rattle.batch.proofs.Progress.{Progress, begin, starts, end, within, inside, next}
+use Rattle.batch.proofs.Progress.{Progress}
 use Rattle.batch_call.proofs.digest_each.Given as goal
 
 abbrev pub invariant-loop-k : goal.invariant-loop-k

@@ -1,4 +1,3 @@
-use borrow.Author.Rules.{rules}
 use Rattle.batch.proofs.Ended.{refused, asked, written}
 use mathlib.Core.Path.{ap}
 use mathlib.Core.Bool.{not}

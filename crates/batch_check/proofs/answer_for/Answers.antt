@@ -1,5 +1,4 @@
 use native.Mathlib.Omega.{arith}
-use borrow.Author.Rules.{rules}
 use borrow.Author.Tests.{eq-eqb, le-leb, lt-leb, ne_eqb}
 use Rattle.batch.proofs.Ended.{ends_unknown, ends_many, few_bytes, ends_other, ends_short, ends_room}
 use mathlib.Core.Path.{ap}

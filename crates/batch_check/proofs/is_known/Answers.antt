@@ -1,6 +1,5 @@
 use mathlib.Core.Path.{sym, ◌∙◌}
 use mathlib.Core.Bool.{true, false}
-use borrow.Author.Rules.{rules}
 use Rattle.digest.proofs.OneCall.{known_by_kind}
 use Rattle.batch_check.proofs.is_known.Goals as goal
 

@@ -1,8 +1,5 @@
-use Prim.Native.Nat.{◌-◌}
 use native.Mathlib.Omega.{arith}
-use borrow.Author.Rules.{rules}
-use lib.ListN.{length}
-use Rattle.batch.proofs.Sums.{Added, none_added, one_added, all_added, not_added}
+use Rattle.batch.proofs.Sums.{none_added, one_added, all_added, not_added}
 use Rattle.batch_check.proofs.total_length.Goals as goal
 
 pub returns-then-lengths-gt-MOST : goal.returns-then-lengths-gt-MOST

@@ -1,4 +1,3 @@
-use borrow.Author.Rules.{rules}
 use Rattle.quasigroup.specs.Tables.{width64}
 use Rattle.pipe.proofs.Call.{loaded}
 use Rattle.block64.proofs.load.Goals as goal

@@ -1,4 +1,3 @@
-use borrow.Author.Rules.{rules}
 use Rattle.quasigroup.specs.Tables.{width64}
 use Rattle.invertible.specs.RoundTrip.{Forward}
 use Rattle.digest.specs.Step.{step}

@@ -1,10 +1,8 @@
-use mathlib.Core.Path.{◌≡◌, refl}
-use Prim.Native.Nat.{◌≤◌, ◌-◌}
+use mathlib.Core.Path.{refl}
 use borrow.Author.Rules.{rules}
 use native.Mathlib.Omega.{arith}
 use lib.ListN.{length-take, length-drop}
 use Rattle.quasigroup.specs.Tables.{width64}
-use Rattle.digest.specs.Blocks.{iterated}
 use Rattle.digest.specs.Step.{step}
 use Rattle.digest.proofs.Blocks.{iterated_turn, iterated_all}
 use Rattle.compression64.specs.Pipes.{pipe64}

@@ -1,12 +1,8 @@
-use mathlib.Core.Path.{◌≡◌, refl}
+use mathlib.Core.Path.{◌≡◌}
 use Prim.Native.Nat.{◌≤◌, ◌-◌}
-use borrow.Author.Rules.{rules}
-use native.Mathlib.Omega.{arith}
-use lib.ListN.{length-take, length-drop}
 use Rattle.quasigroup.specs.Tables.{width64}
 use Rattle.digest.specs.Blocks.{iterated}
 use Rattle.digest.specs.Step.{step}
-use Rattle.digest.proofs.Blocks.{iterated_turn, iterated_all}
 use Rattle.compression64.specs.Pipes.{pipe64}
 use Rattle.block64.proofs.steps.Given as goal
 

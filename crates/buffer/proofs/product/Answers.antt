@@ -1,6 +1,5 @@
 use Rattle.quasigroup.specs.Product.{product}
 use Rattle.buffer.proofs.Outcome.{refused, passed}
-use borrow.Author.Rules.{rules}
 use mathlib.Core.Path.{ap}
 use mathlib.Core.Bool.{not}
 use Rattle.buffer.proofs.product.Goals as goal

@@ -1,6 +1,5 @@
 use Rattle.quasigroup.specs.Division.{right_division}
 use Rattle.buffer.proofs.Outcome.{refused, passed}
-use borrow.Author.Rules.{rules}
 use mathlib.Core.Path.{ap}
 use mathlib.Core.Bool.{not}
 use Rattle.buffer.proofs.right_division.Goals as goal

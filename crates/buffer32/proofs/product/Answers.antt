@@ -2,7 +2,6 @@ use Rattle.quasigroup.specs.Product.{product}
 use Rattle.quasigroup.specs.Tables.{width32}
 use Rattle.quasigroup.proofs.Quasigroup.{from_halves}
 use Rattle.operands.proofs.Stored.{stored}
-use borrow.Author.Rules.{rules}
 use Rattle.buffer32.proofs.product.Goals as goal
 
 pub returns : goal.returns

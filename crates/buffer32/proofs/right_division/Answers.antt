@@ -2,7 +2,6 @@ use Rattle.quasigroup.specs.Division.{right_division}
 use Rattle.quasigroup.specs.Tables.{width32}
 use Rattle.quasigroup.proofs.Quasigroup.{right_from_halves}
 use Rattle.operands.proofs.Stored.{stored}
-use borrow.Author.Rules.{rules}
 use Rattle.buffer32.proofs.right_division.Goals as goal
 
 pub returns : goal.returns

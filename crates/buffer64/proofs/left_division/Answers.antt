@@ -2,7 +2,6 @@ use Rattle.quasigroup.specs.Division.{left_division}
 use Rattle.quasigroup.specs.Tables.{width64}
 use Rattle.quasigroup.proofs.Quasigroup.{left_from_halves}
 use Rattle.operands.proofs.Stored.{stored}
-use borrow.Author.Rules.{rules}
 use Rattle.buffer64.proofs.left_division.Goals as goal
 
 pub returns : goal.returns

@@ -1,5 +1,4 @@
 use mathlib.Core.Path.{ap, sym}
-use borrow.Author.Rules.{rules}
 use Rattle.sheet.specs.Effect.{undone}
 use Rattle.commands.proofs.opposite.Goals as goal
 

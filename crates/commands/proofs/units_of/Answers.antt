@@ -1,5 +1,4 @@
 use mathlib.Core.Path.{ap, sym}
-use borrow.Author.Rules.{rules}
 use Rattle.sheet.specs.Units.{units}
 use Rattle.commands.proofs.units_of.Goals as goal
 

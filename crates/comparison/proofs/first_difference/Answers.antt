@@ -1,8 +1,6 @@
-use mathlib.Core.Logic.{⊎_elim}
-use Prim.Native.Nat.{◌-◌}
 use native.Mathlib.Omega.{arith}
 use borrow.Author.Rules.{rules}
-use Rattle.comparison.proofs.Search.{Searched, begin, found_here, goes_on, found_first, width_most, word_within}
+use Rattle.comparison.proofs.Search.{begin, found_here, goes_on, found_first, width_most, word_within}
 use Rattle.comparison.proofs.first_difference.Goals as goal
 use Rattle.comparison.proofs.first_difference.Goals.{then-found-expected, else-found-expected}
 

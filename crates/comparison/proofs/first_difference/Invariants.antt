@@ -1,8 +1,5 @@
-use mathlib.Core.Logic.{⊎_elim}
 use Prim.Native.Nat.{◌-◌}
-use native.Mathlib.Omega.{arith}
-use borrow.Author.Rules.{rules}
-use Rattle.comparison.proofs.Search.{Searched, begin, found_here, goes_on, found_first, width_most, word_within}
+use Rattle.comparison.proofs.Search.{Searched}
 use Rattle.comparison.proofs.first_difference.Given as goal
 
 abbrev pub invariant-loop-i : goal.invariant-loop-i

@@ -1,8 +1,7 @@
-use Prim.Native.Nat.{◌-◌}
 use native.Mathlib.Omega.{arith}
 use borrow.Author.Rules.{rules}
 use Rattle.quasigroup.proofs.Widths.{bytewise}
-use Rattle.comparison.proofs.Chunks.{Compared, begin, room, next, holds_all}
+use Rattle.comparison.proofs.Chunks.{begin, room, next, holds_all}
 use Rattle.comparison.proofs.Search.{width_most}
 use Rattle.comparison.proofs.record_holds.Goals as goal
 

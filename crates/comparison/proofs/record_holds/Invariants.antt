@@ -1,9 +1,5 @@
 use Prim.Native.Nat.{◌-◌}
-use native.Mathlib.Omega.{arith}
-use borrow.Author.Rules.{rules}
-use Rattle.quasigroup.proofs.Widths.{bytewise}
-use Rattle.comparison.proofs.Chunks.{Compared, begin, room, next, holds_all}
-use Rattle.comparison.proofs.Search.{width_most}
+use Rattle.comparison.proofs.Chunks.{Compared}
 use Rattle.comparison.proofs.record_holds.Given as goal
 
 abbrev pub invariant-loop-at : goal.invariant-loop-at

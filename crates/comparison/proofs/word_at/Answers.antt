@@ -1,7 +1,6 @@
 use mathlib.Core.Path.{ap, sym, ◌∙◌}
 use Prim.Native.Nat.{ℕ, ◌/◌}
 use native.Mathlib.Omega.{arith}
-use borrow.Author.Rules.{rules}
 use Rattle.memory.specs.Bytes.{word_at}
 use Rattle.quasigroup.proofs.Widths.{other_width}
 use Rattle.comparison.proofs.word_at.Goals as goal

@@ -1,4 +1,3 @@
-use borrow.Author.Rules.{rules}
 use Rattle.quasigroup.specs.Tables.{width32}
 use Rattle.quasigroup.proofs.Barred.{from_barred, barred_left_from_halves}
 use Rattle.pipe.proofs.Backward.{solved}

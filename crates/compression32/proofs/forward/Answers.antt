@@ -1,4 +1,3 @@
-use borrow.Author.Rules.{rules}
 use Rattle.quasigroup.specs.Tables.{width32}
 use Rattle.digest.proofs.Step.{by_halves}
 use Rattle.compression32.proofs.forward.Goals as goal

@@ -1,11 +1,9 @@
-use mathlib.Core.Path.{◌≡◌, refl}
-use Prim.Native.Nat.{◌-◌, ◌*◌, ◌≤◌}
+use mathlib.Core.Path.{refl}
 use native.Mathlib.Omega.{arith}
 use borrow.Author.Rules.{rules}
-use lib.ListN.{length}
-use Rattle.text.proofs.Partly.{Partly, none_yet}
+use Rattle.text.proofs.Partly.{none_yet}
 use Rattle.distance_report.specs.Report.{lines}
-use Rattle.distance_report.proofs.Lines.{rest, lines_more, lines_end}
+use Rattle.distance_report.proofs.Lines.{lines_more, lines_end}
 use Rattle.distance_report.proofs.push_lines.Goals as goal
 
 pub loop-k-init : goal.loop-k-init

@@ -1,11 +1,9 @@
-use mathlib.Core.Path.{◌≡◌, refl}
+use mathlib.Core.Path.{◌≡◌}
 use Prim.Native.Nat.{◌-◌, ◌*◌, ◌≤◌}
-use native.Mathlib.Omega.{arith}
-use borrow.Author.Rules.{rules}
 use lib.ListN.{length}
-use Rattle.text.proofs.Partly.{Partly, none_yet}
+use Rattle.text.proofs.Partly.{Partly}
 use Rattle.distance_report.specs.Report.{lines}
-use Rattle.distance_report.proofs.Lines.{rest, lines_more, lines_end}
+use Rattle.distance_report.proofs.Lines.{rest}
 use Rattle.distance_report.proofs.push_lines.Given as goal
 
 abbrev pub invariant-loop-k : goal.invariant-loop-k

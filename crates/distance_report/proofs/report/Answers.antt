@@ -1,6 +1,5 @@
 use mathlib.Core.Path.{sym, ◌∙◌}
 use native.Mathlib.Omega.{arith}
-use borrow.Author.Rules.{rules}
 use Rattle.text.specs.Pushed.{Pushed}
 use Rattle.text.proofs.Pushed.{then, finished}
 use Rattle.distance_report.specs.Report.{total_line}

@@ -1,9 +1,6 @@
-use mathlib.Core.Path.{◌≡◌, refl}
-use Prim.Native.Nat.{◌-◌, ◌≤◌}
+use mathlib.Core.Path.{refl}
 use borrow.Author.Rules.{rules}
-use lib.ListN.{length}
-use Rattle.hamming.specs.Counts.{pair_count}
-use Rattle.hamming.proofs.Counts.{Counting, begin, next, end}
+use Rattle.hamming.proofs.Counts.{begin, next, end}
 use Rattle.distances.proofs.count_records.Goals as goal
 
 pub loop-k-init : goal.loop-k-init

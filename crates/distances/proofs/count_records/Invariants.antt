@@ -1,9 +1,8 @@
-use mathlib.Core.Path.{◌≡◌, refl}
+use mathlib.Core.Path.{◌≡◌}
 use Prim.Native.Nat.{◌-◌, ◌≤◌}
-use borrow.Author.Rules.{rules}
 use lib.ListN.{length}
 use Rattle.hamming.specs.Counts.{pair_count}
-use Rattle.hamming.proofs.Counts.{Counting, begin, next, end}
+use Rattle.hamming.proofs.Counts.{Counting}
 use Rattle.distances.proofs.count_records.Given as goal
 
 abbrev pub invariant-loop-k : goal.invariant-loop-k

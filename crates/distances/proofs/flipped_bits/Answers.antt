@@ -1,4 +1,3 @@
-use borrow.Author.Rules.{rules}
 use borrow.Author.Tests.{le-leb, lt-leb}
 use Rattle.hamming.proofs.Ended.{ends_not_whole, ends_short, asked, ends_counted}
 use mathlib.Core.Path.{ap}

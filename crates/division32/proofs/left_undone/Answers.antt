@@ -1,6 +1,5 @@
 use Rattle.quasigroup.specs.Tables.{width32}
 use Rattle.halves.proofs.Halves.{undone_left}
-use borrow.Author.Rules.{rules}
 use Rattle.division32.proofs.left_undone.Goals as goal
 
 pub returns : goal.returns

@@ -2,7 +2,6 @@ use mathlib.Core.Path.{◌∙◌}
 use Rattle.quasigroup.specs.Tables.{width64}
 use Rattle.memory.proofs.Eight.{eight}
 use Rattle.halves.proofs.Places.{unfilled}
-use borrow.Author.Rules.{rules}
 use Rattle.division64.proofs.left_unrotated.Goals as goal
 
 pub returns : goal.returns

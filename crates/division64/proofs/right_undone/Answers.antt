@@ -1,6 +1,5 @@
 use Rattle.quasigroup.specs.Tables.{width64}
 use Rattle.halves.proofs.Halves.{undone_right}
-use borrow.Author.Rules.{rules}
 use Rattle.division64.proofs.right_undone.Goals as goal
 
 pub returns : goal.returns

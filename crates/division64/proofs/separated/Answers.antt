@@ -1,5 +1,4 @@
 use Rattle.memory.proofs.Eight.{eight}
-use borrow.Author.Rules.{rules}
 use Rattle.division64.proofs.separated.Goals as goal
 
 pub returns : goal.returns

@@ -1,6 +1,5 @@
 use mathlib.Core.Path.{ap, ◌∙◌}
 use Rattle.answer.specs.Number.{number_of}
-use borrow.Author.Rules.{rules}
 use Rattle.edonr.proofs.edonr_product.Goals as goal
 
 pub returns : goal.returns

@@ -1,6 +1,5 @@
 use mathlib.Core.Path.{ap, ◌∙◌}
 use Rattle.slice.specs.Number.{slice_number}
-use borrow.Author.Rules.{rules}
 use Rattle.edonr.proofs.edonr_run_slice.Goals as goal
 
 pub returns : goal.returns

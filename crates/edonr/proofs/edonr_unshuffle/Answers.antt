@@ -2,7 +2,6 @@ use mathlib.Core.Path.{ap, subst, ◌∙◌}
 use Prim.Native.Nat.{◌^◌}
 use Rattle.answer.specs.Number.{marked_number}
 use Rattle.answer.specs.Injective.{Fits}
-use borrow.Author.Rules.{rules}
 use Rattle.edonr.proofs.edonr_unshuffle.Goals as goal
 
 pub returns : goal.returns

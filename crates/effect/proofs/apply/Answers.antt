@@ -1,6 +1,5 @@
 use mathlib.Core.Path.{◌≡◌, subst}
 use Prim.Native.Nat.{ℕ, ◌*◌}
-use borrow.Author.Rules.{rules}
 use lib.ListN.{length}
 use Rattle.sheet.specs.Read.{place_count}
 use Rattle.sheet.specs.Sound.{SoundCommand}

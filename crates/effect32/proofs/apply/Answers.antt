@@ -1,5 +1,4 @@
 use native.Mathlib.Omega.{arith}
-use borrow.Author.Rules.{rules}
 use Rattle.effect32.proofs.apply.Goals as goal
 
 -- The places of a product by arithmetic, whichever is asked for where: so a product at other places is refused for what it leaves.

@@ -1,4 +1,3 @@
-use borrow.Author.Rules.{rules}
 use Rattle.quasigroup.specs.Tables.{width32}
 use Rattle.quasigroup.specs.Division.{right_division}
 use Rattle.quasigroup.proofs.Quasigroup.{right_from_halves}

@@ -1,4 +1,3 @@
-use borrow.Author.Rules.{rules}
 use Rattle.quasigroup.specs.Vector.{reversed}
 use Rattle.sheet.specs.Run.{vectors_in}
 use Rattle.sheet.proofs.Parts.{changed}

@@ -1,4 +1,3 @@
-use borrow.Author.Rules.{rules}
 use Rattle.quasigroup.specs.Tables.{width32}
 use Rattle.quasigroup.specs.Product.{product}
 use Rattle.quasigroup.proofs.Quasigroup.{from_halves}

@@ -1,5 +1,4 @@
 use mir.Syntax.{w32}
-use native.Mathlib.Omega.{arith}
 use borrow.Author.Rules.{rules}
 use Rattle.quasigroup.proofs.Widths.{bytewise_32}
 use Rattle.sheet.proofs.Parts.{place_written}

@@ -1,4 +1,3 @@
-use borrow.Author.Rules.{rules}
 use Rattle.sheet.specs.Run.{vectors_in}
 use Rattle.sheet.proofs.Parts.{changed_both}
 use Rattle.effect32.proofs.swap.Goals as goal

@@ -1,4 +1,3 @@
-use borrow.Author.Rules.{rules}
 use Rattle.quasigroup.specs.Tables.{width64}
 use Rattle.quasigroup.specs.Division.{left_division}
 use Rattle.quasigroup.proofs.Quasigroup.{left_from_halves}

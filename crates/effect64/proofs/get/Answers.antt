@@ -1,5 +1,4 @@
 use mathlib.Core.Path.{◌∙◌}
-use borrow.Author.Rules.{rules}
 use Rattle.sheet.proofs.Parts.{place_read}
 use Rattle.effect64.proofs.get.Goals as goal
 

@@ -1,5 +1,4 @@
 use mathlib.Core.Path.{◌∙◌}
-use borrow.Author.Rules.{rules}
 use Rattle.memory.proofs.Parts.{words_part}
 use Rattle.effect64.proofs.vector_at.Goals as goal
 

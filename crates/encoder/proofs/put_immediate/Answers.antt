@@ -1,4 +1,3 @@
-use borrow.Author.Rules.{rules}
 use Rattle.encoder.proofs.Written.{then_copied}
 use Rattle.encoder.proofs.put_immediate.Goals as goal
 

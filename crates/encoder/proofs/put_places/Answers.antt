@@ -1,4 +1,3 @@
-use borrow.Author.Rules.{rules}
 use Rattle.encoder.proofs.Written.{then_one}
 use Rattle.encoder.proofs.put_places.Goals as goal
 

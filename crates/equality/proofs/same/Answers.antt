@@ -1,8 +1,5 @@
-use borrow.Author.Rules.{rules}
-use Prim.Native.Nat.{◌-◌}
 use native.Mathlib.Omega.{arith}
-use lib.ListN.{length}
-use Rattle.hmac.proofs.Compared.{Compared, other_length, none_compared, one_compared, all_compared}
+use Rattle.hmac.proofs.Compared.{other_length, none_compared, one_compared, all_compared}
 use Rattle.equality.proofs.same.Goals as goal
 
 pub returns-then-a-b : goal.returns-then-a-b

@@ -1,8 +1,6 @@
-use borrow.Author.Rules.{rules}
 use Prim.Native.Nat.{◌-◌}
-use native.Mathlib.Omega.{arith}
 use lib.ListN.{length}
-use Rattle.hmac.proofs.Compared.{Compared, other_length, none_compared, one_compared, all_compared}
+use Rattle.hmac.proofs.Compared.{Compared}
 use Rattle.equality.proofs.same.Given as goal
 
 abbrev pub invariant-loop-i : goal.invariant-loop-i

@@ -1,6 +1,5 @@
 use Rattle.quasigroup.specs.Tables.{width32}
 use Rattle.halves.proofs.Halves.{right_half_lem}
-use Rattle.std.proofs.Common.{rules}
 use Rattle.half32.proofs.right_half.Goals as goal
 
 pub returns : goal.returns

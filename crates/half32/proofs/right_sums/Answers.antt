@@ -1,6 +1,5 @@
 use Rattle.quasigroup.specs.Tables.{width32, right_sums}
 use Rattle.halves.proofs.Places.{eight_sums}
-use Rattle.std.proofs.Common.{rules}
 use Rattle.half32.proofs.right_sums.Goals as goal
 
 pub returns : goal.returns

@@ -1,7 +1,6 @@
 use Rattle.quasigroup.specs.Tables.{width64}
 use Rattle.quasigroup.specs.Barred.{barred_left_sums}
 use Rattle.halves.proofs.Places.{eight_sums}
-use Rattle.std.proofs.Common.{rules}
 use Rattle.half64.proofs.barred_left_sums.Goals as goal
 
 pub returns : goal.returns

@@ -1,6 +1,5 @@
 use Rattle.quasigroup.specs.Tables.{width64, left_sums}
 use Rattle.halves.proofs.Places.{eight_sums}
-use Rattle.std.proofs.Common.{rules}
 use Rattle.half64.proofs.left_sums.Goals as goal
 
 pub returns : goal.returns

@@ -1,5 +1,4 @@
 use Rattle.memory.proofs.Eight.{eight}
-use Rattle.std.proofs.Common.{rules}
 use Rattle.half64.proofs.right_combinations.Goals as goal
 
 pub returns : goal.returns

@@ -1,4 +1,3 @@
-use borrow.Author.Rules.{rules}
 use Rattle.hmac.proofs.Ended.{not_made, asked, made}
 use mathlib.Core.Path.{ap}
 use mathlib.Core.Bool.{not}

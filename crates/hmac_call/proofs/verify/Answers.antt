@@ -1,10 +1,8 @@
-use mathlib.Core.Path.{◌≡◌, sym}
+use mathlib.Core.Path.{◌≡◌}
 use mathlib.Core.Bool.{true, false}
-use Prim.Native.Nat.{◌≤◌}
 use native.Mathlib.Omega.{arith}
 use borrow.Author.Rules.{rules}
 use lib.ListN.{length}
-use lib.Seq.{length-take-le}
 use Rattle.digest.proofs.Answers.{known_bound}
 use Rattle.hmac.proofs.Tag.{not_tested, tested, verified}
 use mathlib.Core.Path.{ap}

@@ -1,9 +1,7 @@
-use mathlib.Core.Path.{◌≡◌, sym}
-use Prim.Native.Nat.{◌≤◌}
+use mathlib.Core.Path.{◌≡◌}
 use native.Mathlib.Omega.{arith}
 use borrow.Author.Rules.{rules}
 use lib.ListN.{length}
-use lib.Seq.{length-take-le}
 use Rattle.digest.proofs.Answers.{known_bound}
 use Rattle.hmac.proofs.KeyBlock.{block_most}
 use Rattle.hmac.proofs.Tag.{tag_written}

@@ -1,5 +1,4 @@
 use mathlib.Core.Bool.{true, false}
-use borrow.Author.Rules.{rules}
 use Rattle.hmac.proofs.Ended.{block_by_kind}
 use Rattle.hmac_check.proofs.block_length.Goals as goal
 

@@ -1,5 +1,4 @@
 use native.Mathlib.Omega.{arith}
-use borrow.Author.Rules.{rules}
 use Rattle.hmac.proofs.KeyBlock.{block_most}
 use Rattle.hmac.proofs.Ended.{no_key, by_message}
 use Rattle.hmac_check.proofs.is_fitting.Goals as goal

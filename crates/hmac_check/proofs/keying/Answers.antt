@@ -1,6 +1,5 @@
 use mathlib.Core.Path.{ap}
 use mathlib.Core.Bool.{not}
-use borrow.Author.Rules.{rules}
 use Rattle.hmac.proofs.Ended.{ends_unknown, ends_long, ends_passed}
 use Rattle.hmac_check.proofs.keying.Goals as goal
 

@@ -1,4 +1,3 @@
-use borrow.Author.Rules.{rules}
 use Rattle.hmac.proofs.Ended.{ends_unknown, ends_long, ends_short, ends_room}
 use mathlib.Core.Path.{ap}
 use mathlib.Core.Bool.{not}

@@ -1,5 +1,4 @@
 use native.Mathlib.Omega.{arith}
-use borrow.Author.Rules.{rules}
 use Rattle.hmac.proofs.KeyBlock.{block_most}
 use Rattle.hmac.proofs.Padded.{copied_block, digest_within, digest_bytes, digest_fits, digested_block}
 use Rattle.hmac_key.proofs.key_block.Goals as goal

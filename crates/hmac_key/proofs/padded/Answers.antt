@@ -1,10 +1,10 @@
 use mathlib.Core.Path.{◌≡◌, ap, ◌∙◌}
-use Prim.Native.Nat.{ℕ, ◌-◌}
+use Prim.Native.Nat.{ℕ}
 use native.Mathlib.Omega.{arith}
 use borrow.Author.Rules.{rules}
 use lib.ListN.{length, replicate}
 use Rattle.hmac.specs.Hmac.{xored}
-use Rattle.hmac.proofs.Padded.{Padded, none_padded, one_padded, all_padded}
+use Rattle.hmac.proofs.Padded.{none_padded, one_padded, all_padded}
 use Rattle.hmac_key.proofs.padded.Goals as goal
 
 pub loop-i-init : goal.loop-i-init

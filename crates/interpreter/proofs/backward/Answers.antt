@@ -1,14 +1,8 @@
 use mathlib.Core.Path.{◌≡◌, refl}
-use mathlib.Core.Bool.{true}
-use mathlib.Core.List.{reverse}
-use Prim.Native.Nat.{suc, ◌+◌, ◌-◌, ◌*◌, ◌≤◌}
+use Prim.Native.Nat.{suc, ◌+◌, ◌-◌}
 use native.Mathlib.Omega.{arith}
 use borrow.Author.Rules.{rules}
-use lib.ListN.{length, take}
-use Rattle.quasigroup.specs.Tables.{known_width}
-use Rattle.sheet.specs.Read.{place_count}
-use Rattle.invertible.specs.RoundTrip.{Backward}
-use Rattle.sheet.specs.Run.{steps, vectors_in}
+use Rattle.sheet.specs.Run.{vectors_in}
 use Rattle.interpreter.proofs.Loops.{backward_more}
 use Rattle.interpreter.proofs.backward.Goals as goal
 

@@ -1,15 +1,12 @@
-use mathlib.Core.Path.{◌≡◌, refl}
+use mathlib.Core.Path.{◌≡◌}
 use mathlib.Core.Bool.{true}
 use mathlib.Core.List.{reverse}
-use Prim.Native.Nat.{suc, ◌+◌, ◌-◌, ◌*◌, ◌≤◌}
-use native.Mathlib.Omega.{arith}
-use borrow.Author.Rules.{rules}
+use Prim.Native.Nat.{◌-◌, ◌*◌, ◌≤◌}
 use lib.ListN.{length, take}
 use Rattle.quasigroup.specs.Tables.{known_width}
 use Rattle.sheet.specs.Read.{place_count}
 use Rattle.invertible.specs.RoundTrip.{Backward}
 use Rattle.sheet.specs.Run.{steps, vectors_in}
-use Rattle.interpreter.proofs.Loops.{backward_more}
 use Rattle.interpreter.proofs.backward.Given as goal
 
 abbrev pub invariant-loop-done : goal.invariant-loop-done

@@ -1,16 +1,12 @@
-use mathlib.Core.Path.{◌≡◌, refl, sym, ◌∙◌}
+use mathlib.Core.Path.{◌≡◌}
 use mathlib.Core.Bool.{true}
 use Prim.Native.Nat.{◌-◌, ◌*◌, ◌≤◌}
-use native.Mathlib.Omega.{arith}
-use borrow.Author.Rules.{rules}
 use lib.ListN.{length}
 use Rattle.quasigroup.specs.Tables.{known_width}
 use Rattle.sheet.specs.Read.{place_count}
 use Rattle.sheet.specs.Sheet.{scan_from}
 use Rattle.invertible.specs.RoundTrip.{Forward}
 use Rattle.sheet.specs.Run.{steps, vectors_in}
-use Rattle.sheet.proofs.Sound.{got_sound}
-use Rattle.interpreter.proofs.Loops.{forward_more, forward_fault, forward_end}
 use Rattle.interpreter.proofs.forward.Given as goal
 
 abbrev pub invariant-loop-d : goal.invariant-loop-d

@@ -1,5 +1,4 @@
 use mathlib.Core.Path.{sym, ap, ◌∙◌}
-use borrow.Author.Rules.{rules}
 use Rattle.sheet.specs.declared.Read.TheVariants.{Got, Fault, End}
 use Rattle.sheet.specs.Run.{vectors_in}
 use Rattle.sheet.specs.Progress.{RunState, starting_at}

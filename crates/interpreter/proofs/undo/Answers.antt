@@ -1,5 +1,4 @@
 use mathlib.Core.Path.{sym, subst, ◌∙◌}
-use borrow.Author.Rules.{rules}
 use lib.ListN.{length}
 use Rattle.sheet.specs.Read.{place_count}
 use Rattle.sheet.specs.Run.{vectors_in}

@@ -1,4 +1,3 @@
-use borrow.Author.Rules.{rules}
 use Rattle.inverter.proofs.Called.{sheet_refused, accepted, room_refused, room_left, written}
 use mathlib.Core.Path.{ap}
 use mathlib.Core.Bool.{not}

@@ -1,6 +1,5 @@
 use mathlib.Core.Path.{refl, sym, ◌∙◌}
 use mathlib.Core.Bool.{true}
-use borrow.Author.Rules.{rules}
 use lib.ListN.{length}
 use Rattle.answer.specs.declared.Answer.TheVariants.{Done}
 use Rattle.answer.proofs.Tests.{goes_on, stops}

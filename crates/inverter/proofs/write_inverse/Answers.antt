@@ -1,5 +1,4 @@
 use mathlib.Core.Path.{sym, ap, subst, ◌∙◌}
-use Prim.Native.Nat.{◌-◌}
 use native.Mathlib.Omega.{arith}
 use borrow.Author.Rules.{rules}
 use lib.ListN.{length}
@@ -8,9 +7,9 @@ use Rattle.sheet.specs.Read.{place_count}
 use Rattle.sheet.specs.Sound.{SoundCommand}
 use Rattle.sheet.proofs.Sound.{got_sound}
 use Rattle.sheet.proofs.Undoing.{sound_undone}
-use Rattle.inverse.specs.Encoding.{Accepted, encoded}
+use Rattle.inverse.specs.Encoding.{encoded}
 use Rattle.inverse.proofs.Inverts.{undoing_length}
-use Rattle.inverter.proofs.Inverting.{Inverting, started, here_size, more, ended, faulty}
+use Rattle.inverter.proofs.Inverting.{started, here_size, more, ended, faulty}
 use Rattle.inverter.proofs.write_inverse.Goals as goal
 
 pub loop-d-init : goal.loop-d-init

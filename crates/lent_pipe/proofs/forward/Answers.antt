@@ -1,4 +1,3 @@
-use borrow.Author.Rules.{rules}
 use Rattle.invertible.specs.RoundTrip.{Forward}
 use Rattle.lent_pipe.proofs.Outcome.{refused, passed}
 use mathlib.Core.Path.{ap}

@@ -1,6 +1,5 @@
 use mathlib.Core.Path.{sym, ◌∙◌}
 use native.Mathlib.Omega.{arith}
-use borrow.Author.Rules.{rules}
 use Rattle.sheet.proofs.Checked.{short}
 use Rattle.text.proofs.Pushed.{then, finished}
 use Rattle.listing.proofs.Lines.{listed_whole, listed_faulty}

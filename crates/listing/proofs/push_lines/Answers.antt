@@ -1,10 +1,8 @@
-use mathlib.Core.Path.{◌≡◌, refl, sym, ◌∙◌}
-use Prim.Native.Nat.{◌-◌, ◌*◌, ◌≤◌}
+use mathlib.Core.Path.{refl, sym, ◌∙◌}
 use native.Mathlib.Omega.{arith}
 use borrow.Author.Rules.{rules}
-use lib.ListN.{length}
 use Rattle.sheet.proofs.Sound.{got_sound}
-use Rattle.text.proofs.Partly.{Partly, none_yet}
+use Rattle.text.proofs.Partly.{none_yet}
 use Rattle.listing.proofs.Lines.{rest, lines_more, lines_fault, lines_end}
 use Rattle.listing.proofs.push_lines.Goals as goal
 

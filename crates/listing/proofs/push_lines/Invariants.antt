@@ -1,11 +1,8 @@
-use mathlib.Core.Path.{◌≡◌, refl, sym, ◌∙◌}
+use mathlib.Core.Path.{◌≡◌}
 use Prim.Native.Nat.{◌-◌, ◌*◌, ◌≤◌}
-use native.Mathlib.Omega.{arith}
-use borrow.Author.Rules.{rules}
 use lib.ListN.{length}
-use Rattle.sheet.proofs.Sound.{got_sound}
-use Rattle.text.proofs.Partly.{Partly, none_yet}
-use Rattle.listing.proofs.Lines.{rest, lines_more, lines_fault, lines_end}
+use Rattle.text.proofs.Partly.{Partly}
+use Rattle.listing.proofs.Lines.{rest}
 use Rattle.listing.proofs.push_lines.Given as goal
 
 abbrev pub invariant-loop-d : goal.invariant-loop-d

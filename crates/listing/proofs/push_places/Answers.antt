@@ -1,5 +1,4 @@
 use native.Mathlib.Omega.{arith}
-use borrow.Author.Rules.{rules}
 use Rattle.listing.proofs.push_places.Goals as goal
 
 pub returns-in-Lmul : goal.returns-in-Lmul

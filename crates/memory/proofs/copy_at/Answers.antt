@@ -1,10 +1,6 @@
-use mathlib.Core.Path.{◌≡◌}
-use Prim.Native.Nat.{◌+◌, ◌-◌, ◌≤◌}
 use borrow.Author.Rules.{rules}
-use native.Mathlib.Omega.{arith}
-use lib.ListN.{length}
-use lib.Seq.{paste, paste-zero}
-use Rattle.memory.proofs.Copy.{copied_length, copied_more, copied_all}
+use lib.Seq.{paste-zero}
+use Rattle.memory.proofs.Copy.{copied_more, copied_all}
 use Rattle.memory.proofs.copy_at.Goals as goal
 
 pub loop-i-init : goal.loop-i-init

@@ -1,4 +1,3 @@
-use borrow.Author.Rules.{rules}
 use Rattle.memory64.proofs.load_vector.Goals as goal
 
 pub returns : goal.returns

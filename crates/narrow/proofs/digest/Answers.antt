@@ -1,5 +1,4 @@
 use native.Mathlib.Omega.{arith}
-use borrow.Author.Rules.{rules}
 use Rattle.digest.specs.Kind.{narrow_kind}
 use Rattle.digest.proofs.Answers.{narrow_sized}
 use Rattle.digest.proofs.Cases.{Digesting, digest_refused, digest_goes}

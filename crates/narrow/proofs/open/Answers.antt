@@ -1,4 +1,3 @@
-use borrow.Author.Rules.{rules}
 use Rattle.digest.proofs.Answers.{narrow_sized}
 use Rattle.digest.proofs.Cases.{open_refused, open_accepted}
 use Rattle.narrow.proofs.Whole.{whole_opened}

@@ -1,6 +1,5 @@
 use mathlib.Core.Path.{sym, ◌∙◌}
 use mathlib.Core.Bool.{true, false}
-use borrow.Author.Rules.{rules}
 use Rattle.digest.proofs.OneCall.{by_kind}
 use Rattle.one_call.proofs.digest.Goals as goal
 

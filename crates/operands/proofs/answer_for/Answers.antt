@@ -1,6 +1,5 @@
 use Rattle.answer.proofs.Tests.{goes_on, stops}
 use Rattle.operands.proofs.Tests.{unknown_refused, operand_refused, output_refused, accepted}
-use borrow.Author.Rules.{rules}
 use mathlib.Core.Path.{ap}
 use mathlib.Core.Bool.{not}
 use Rattle.operands.proofs.answer_for.Goals as goal

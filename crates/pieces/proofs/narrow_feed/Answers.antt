@@ -1,5 +1,4 @@
 use mathlib.Core.Path.{ap, ◌∙◌}
-use borrow.Author.Rules.{rules}
 use Rattle.answer.specs.Number.{marked_number}
 use Rattle.narrow.specs.declared.Outcome.{Outcome}
 use Rattle.pieces.proofs.narrow_feed.Goals as goal

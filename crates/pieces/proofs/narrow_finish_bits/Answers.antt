@@ -1,5 +1,4 @@
 use mathlib.Core.Path.{ap, ◌∙◌}
-use borrow.Author.Rules.{rules}
 use Rattle.answer.specs.Number.{number_of}
 use Rattle.pieces.proofs.narrow_finish_bits.Goals as goal
 

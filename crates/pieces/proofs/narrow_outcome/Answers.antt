@@ -1,4 +1,3 @@
-use borrow.Author.Rules.{rules}
 use Rattle.answer.proofs.Tests.{goes_on, stops}
 use Rattle.answer.proofs.Refuse.{refused_outcome, done_outcome}
 use mathlib.Core.Path.{ap}

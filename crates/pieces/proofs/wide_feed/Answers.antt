@@ -1,5 +1,4 @@
 use mathlib.Core.Path.{ap, ◌∙◌}
-use borrow.Author.Rules.{rules}
 use Rattle.answer.specs.Number.{marked_number}
 use Rattle.wide.specs.declared.Outcome.{Outcome}
 use Rattle.pieces.proofs.wide_feed.Goals as goal

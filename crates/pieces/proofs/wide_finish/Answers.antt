@@ -1,5 +1,4 @@
 use mathlib.Core.Path.{ap, ◌∙◌}
-use borrow.Author.Rules.{rules}
 use Rattle.answer.specs.Number.{number_of}
 use Rattle.digest.specs.Kind.{wide_kind}
 use Rattle.digest.proofs.BitFinishing.{no_bits}

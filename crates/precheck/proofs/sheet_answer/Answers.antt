@@ -1,5 +1,4 @@
 use mathlib.Core.Path.{sym, ap}
-use borrow.Author.Rules.{rules}
 use Rattle.sheet.specs.Work.{found_answer}
 use Rattle.precheck.proofs.sheet_answer.Goals as goal
 

@@ -1,6 +1,5 @@
 use Rattle.quasigroup.specs.Tables.{width32}
 use Rattle.quasigroup.proofs.Barred.{barred_from_halves}
-use borrow.Author.Rules.{rules}
 use Rattle.product32.proofs.barred_product.Goals as goal
 
 pub returns : goal.returns

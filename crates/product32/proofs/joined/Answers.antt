@@ -1,5 +1,4 @@
 use Rattle.memory.proofs.Eight.{eight}
-use borrow.Author.Rules.{rules}
 use Rattle.product32.proofs.joined.Goals as goal
 
 pub returns : goal.returns

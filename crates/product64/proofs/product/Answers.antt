@@ -1,6 +1,5 @@
 use Rattle.quasigroup.specs.Tables.{width64}
 use Rattle.quasigroup.proofs.Quasigroup.{from_halves}
-use borrow.Author.Rules.{rules}
 use Rattle.product64.proofs.product.Goals as goal
 
 pub returns : goal.returns

@@ -1,4 +1,3 @@
-use borrow.Author.Tests.{ne_eqb}
 use Rattle.reader.proofs.one_place_command.Goals as goal
 
 pub returns-in-6 : goal.returns-in-6

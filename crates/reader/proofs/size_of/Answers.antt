@@ -1,5 +1,4 @@
 use borrow.Author.Tests.{ne_eqb, lt-ltb, le-ltb}
-use borrow.Author.Rules.{rules}
 use Rattle.reader.proofs.size_of.Goals as goal
 
 pub returns-then-opcode-lt6 : goal.returns-then-opcode-lt6

@@ -1,4 +1,3 @@
-use borrow.Author.Tests.{ne_eqb}
 use Rattle.reader.proofs.two_place_command.Goals as goal
 
 pub returns-in-1 : goal.returns-in-1

@@ -1,11 +1,5 @@
-use mathlib.Core.Path.{◌≡◌, refl, sym, ap₂, ◌∙◌}
-use mathlib.Core.List.{List}
-use Prim.Native.Nat.{ℕ, ◌-◌}
-use borrow.Author.Rules.{rules}
-use native.Mathlib.Omega.{arith}
-use Rattle.shuffle.specs.Transposed.{transposed}
-use Rattle.record.proofs.Moved.{Moved, plain, across, none_moved, some_words, tile_inside, tile_ends}
-use Rattle.record.proofs.Moved.{rows_inside, row_inside, restore_more, restore_all}
+use Prim.Native.Nat.{◌-◌}
+use Rattle.record.proofs.Moved.{Moved, plain, across}
 use Rattle.record.proofs.restore.Given as goal
 
 abbrev pub invariant-loop-g : goal.invariant-loop-g

@@ -1,4 +1,3 @@
-use borrow.Author.Rules.{rules}
 use borrow.Author.Tests.{ltb-true, ltb-false, le-leb, lt-leb}
 use Rattle.answer.proofs.Tests.{goes_on, stops}
 use mathlib.Core.Path.{ap}

@@ -1,5 +1,4 @@
 use borrow.Author.Tests.{le-leb, lt-leb}
-use borrow.Author.Rules.{rules}
 use Rattle.answer.proofs.Tests.{goes_on, stops}
 use mathlib.Core.Path.{ap}
 use mathlib.Core.Bool.{not}

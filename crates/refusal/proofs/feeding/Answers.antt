@@ -1,7 +1,6 @@
 use Prim.Native.Nat.{◌+◌, ◌≤◌, ◌<◌}
 use native.Mathlib.Omega.{arith}
 use borrow.Author.Tests.{le-leb, lt-leb}
-use borrow.Author.Rules.{rules}
 use Rattle.answer.proofs.Tests.{goes_on, stops}
 use Rattle.digest.specs.Refusals.{limit}
 use Rattle.digest.proofs.Answers.{form_total}

@@ -1,5 +1,4 @@
 use mathlib.Core.Path.{sym, ◌∙◌}
-use borrow.Author.Rules.{rules}
 use Rattle.refusal.proofs.in_form.Goals as goal
 
 pub returns-then-is_size : goal.returns-then-is_size

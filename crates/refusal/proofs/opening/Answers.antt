@@ -1,4 +1,3 @@
-use borrow.Author.Rules.{rules}
 use Rattle.answer.proofs.Tests.{goes_on, stops}
 use mathlib.Core.Path.{ap}
 use mathlib.Core.Bool.{not}

@@ -1,4 +1,3 @@
-use borrow.Author.Rules.{rules}
 use Rattle.replayer.proofs.Tested.{width_refused}
 use Rattle.replayer.proofs.first_false_record.Goals as goal
 

@@ -1,5 +1,4 @@
 use Prim.Native.Nat.{◌*◌, ◌/◌, ◌%◌}
-use borrow.Author.Rules.{rules}
 use borrow.Author.Tests.{eq-eqb, ne_eqb, lt-leb, le-leb}
 use Rattle.shuffle.proofs.Widths.{sized}
 use Rattle.replayer.proofs.records_answer.Goals as goal

@@ -1,4 +1,3 @@
-use borrow.Author.Rules.{rules}
 use Rattle.invertible.specs.RoundTrip.{Backward}
 use Rattle.sheet.proofs.Ran.{width_refused}
 use Rattle.run.proofs.run_backward.Goals as goal

@@ -1,5 +1,4 @@
 use mathlib.Core.Path.{refl}
-use borrow.Author.Rules.{rules}
 use Rattle.sheet.specs.Read.{place_count}
 use Rattle.sheet.proofs.Scan.{plan_scanned, plan_long}
 use Rattle.scanner.proofs.check_start.Goals as goal

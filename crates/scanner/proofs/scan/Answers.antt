@@ -1,10 +1,7 @@
-use borrow.Author.Rules.{rules}
 use mathlib.Core.Path.{sym, ◌∙◌}
 use native.Mathlib.Omega.{arith}
-use lib.ListN.{length}
-use Prim.Native.Nat.{◌-◌, ◌≤◌}
 use Rattle.sheet.proofs.Sound.{got_sound, fault_inside}
-use Rattle.scanner.proofs.Scanning.{Scanning, started, more, faulty, ended}
+use Rattle.scanner.proofs.Scanning.{started, more, faulty, ended}
 use Rattle.scanner.proofs.scan.Goals as goal
 
 pub loop-d-init : goal.loop-d-init

@@ -1,9 +1,6 @@
 use Prim.Native.Nat.{◌-◌}
-use borrow.Author.Rules.{rules}
-use native.Mathlib.Omega.{arith}
 use Rattle.shuffle.specs.Shuffle.{unshuffled_record}
-use Rattle.shuffle.proofs.Widths.{sized, unshuffled_keeps}
-use Rattle.shuffler.proofs.Loop.{Progress, begin, same_size, inside, few, starts, asked, next, end}
+use Rattle.shuffler.proofs.Loop.{Progress}
 use Rattle.shuffler.proofs.restore_records.Given as goal
 
 abbrev pub invariant-loop-i : goal.invariant-loop-i

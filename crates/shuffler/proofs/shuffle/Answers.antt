@@ -1,4 +1,3 @@
-use borrow.Author.Rules.{rules}
 use Rattle.shuffle.specs.Shuffle.{shuffled_record}
 use Rattle.shuffler.proofs.Called.{refused, asked, written}
 use mathlib.Core.Path.{ap}

@@ -1,9 +1,8 @@
-use Prim.Native.Nat.{◌-◌}
 use borrow.Author.Rules.{rules}
 use native.Mathlib.Omega.{arith}
 use Rattle.shuffle.specs.Shuffle.{shuffled_record}
 use Rattle.shuffle.proofs.Widths.{sized, shuffled_keeps}
-use Rattle.shuffler.proofs.Loop.{Progress, begin, same_size, inside, few, starts, asked, next, end}
+use Rattle.shuffler.proofs.Loop.{begin, same_size, inside, few, starts, asked, next, end}
 use Rattle.shuffler.proofs.shuffle_records.Goals as goal
 
 pub nonzero_div-count : goal.nonzero_div-count

@@ -1,5 +1,4 @@
 use mathlib.Core.Path.{sym, ap}
-use borrow.Author.Rules.{rules}
 use Rattle.slice.specs.Number.{slice_number}
 use Rattle.slice.proofs.number.Goals as goal
 

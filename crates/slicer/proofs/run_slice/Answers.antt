@@ -1,4 +1,3 @@
-use borrow.Author.Rules.{rules}
 use Rattle.slicer.proofs.Sliced.{width_refused}
 use Rattle.slicer.proofs.run_slice.Goals as goal
 

@@ -1,11 +1,7 @@
 use mathlib.Core.Path.{◌≡◌, refl, ap, sym, ◌∙◌}
-use mathlib.Core.Bool.{true}
-use Prim.Native.Nat.{ℕ, suc, ◌+◌, ◌-◌, ◌*◌, ◌≤◌}
+use Prim.Native.Nat.{ℕ, suc, ◌+◌, ◌-◌}
 use native.Mathlib.Omega.{arith}
 use borrow.Author.Rules.{rules}
-use lib.ListN.{length}
-use Rattle.quasigroup.specs.Tables.{known_width}
-use Rattle.sheet.specs.Read.{place_count}
 use Rattle.sheet.specs.Run.{vectors_in}
 use Rattle.sheet.specs.Progress.{run_state, starting_at, state_after}
 use Rattle.sheet.proofs.Sound.{got_sound}

@@ -1,15 +1,11 @@
-use mathlib.Core.Path.{◌≡◌, refl, ap, sym, ◌∙◌}
+use mathlib.Core.Path.{◌≡◌}
 use mathlib.Core.Bool.{true}
-use Prim.Native.Nat.{ℕ, suc, ◌+◌, ◌-◌, ◌*◌, ◌≤◌}
-use native.Mathlib.Omega.{arith}
-use borrow.Author.Rules.{rules}
+use Prim.Native.Nat.{◌-◌, ◌*◌, ◌≤◌}
 use lib.ListN.{length}
 use Rattle.quasigroup.specs.Tables.{known_width}
 use Rattle.sheet.specs.Read.{place_count}
 use Rattle.sheet.specs.Run.{vectors_in}
 use Rattle.sheet.specs.Progress.{run_state, starting_at, state_after}
-use Rattle.sheet.proofs.Sound.{got_sound}
-use Rattle.stepper.proofs.Counting.{one_more, at_fault, at_end, none_left}
 use Rattle.stepper.proofs.advance.Given as goal
 
 -- (`done` may be one above the budget here, so that a loop that does one command too many is refused for what it does)

@@ -1,5 +1,4 @@
 use native.Mathlib.Omega.{arith}
-use borrow.Author.Rules.{rules}
 use Rattle.text.specs.Decimal.{spaced}
 use Rattle.text.specs.Pushed.{Pushed}
 use Rattle.text.proofs.Pushed.{then}

@@ -1,7 +1,6 @@
 use mathlib.Core.Path.{subst}
 use Prim.Native.Nat.{ℕ}
 use native.Mathlib.Omega.{arith}
-use borrow.Author.Rules.{rules}
 use Rattle.text.specs.Label.{labelled, refused_word}
 use Rattle.text.specs.Pushed.{Pushed}
 use Rattle.text.proofs.push_refused.Goals as goal

@@ -1,5 +1,4 @@
 use native.Mathlib.Omega.{arith}
-use borrow.Author.Rules.{rules}
 use Rattle.text.proofs.Pushed.{then}
 use Rattle.text.proofs.push_spaced.Goals as goal
 

@@ -1,10 +1,10 @@
-use mathlib.Core.Path.{◌≡◌, refl}
+use mathlib.Core.Path.{refl}
 use mathlib.Core.List.{[], ◌∷◌}
-use Prim.Native.Nat.{◌+◌, ◌-◌, ◌≤◌}
+use Prim.Native.Nat.{◌+◌, ◌≤◌}
 use native.Mathlib.Omega.{arith}
 use borrow.Author.Rules.{rules}
 use lib.ListN.{length, get_or, drop, drop_of_length-le}
-use Rattle.text.proofs.Partly.{Partly, rest_begins, none_yet, one_more, all_stored}
+use Rattle.text.proofs.Partly.{rest_begins, none_yet, one_more, all_stored}
 use Rattle.text.proofs.push_text.Goals as goal
 
 pub loop-i-init : goal.loop-i-init

@@ -1,10 +1,7 @@
-use mathlib.Core.Path.{◌≡◌, refl}
-use mathlib.Core.List.{[], ◌∷◌}
+use mathlib.Core.Path.{◌≡◌}
 use Prim.Native.Nat.{◌+◌, ◌-◌, ◌≤◌}
-use native.Mathlib.Omega.{arith}
-use borrow.Author.Rules.{rules}
-use lib.ListN.{length, get_or, drop, drop_of_length-le}
-use Rattle.text.proofs.Partly.{Partly, rest_begins, none_yet, one_more, all_stored}
+use lib.ListN.{length, drop}
+use Rattle.text.proofs.Partly.{Partly}
 use Rattle.text.proofs.push_text.Given as goal
 
 abbrev pub invariant-loop-i : goal.invariant-loop-i

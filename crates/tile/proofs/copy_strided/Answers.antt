@@ -1,7 +1,6 @@
-use Prim.Native.Nat.{◌-◌}
 use borrow.Author.Rules.{rules}
 use native.Mathlib.Omega.{arith}
-use Rattle.tile.proofs.Copy.{Copying, begin, same_size, next, end}
+use Rattle.tile.proofs.Copy.{begin, same_size, next, end}
 use Rattle.tile.proofs.copy_strided.Goals as goal
 
 pub loop-j-init : goal.loop-j-init

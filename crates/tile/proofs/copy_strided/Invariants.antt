@@ -1,7 +1,5 @@
 use Prim.Native.Nat.{◌-◌}
-use borrow.Author.Rules.{rules}
-use native.Mathlib.Omega.{arith}
-use Rattle.tile.proofs.Copy.{Copying, begin, same_size, next, end}
+use Rattle.tile.proofs.Copy.{Copying}
 use Rattle.tile.proofs.copy_strided.Given as goal
 
 abbrev pub invariant-loop-j : goal.invariant-loop-j

@@ -1,7 +1,6 @@
 use mathlib.Core.Path.{refl}
-use Prim.Native.Nat.{◌-◌}
 use borrow.Author.Rules.{rules}
-use Rattle.tile.proofs.Interleaved.{Interleaving, interleaving_none, interleaving_next, interleaving_all}
+use Rattle.tile.proofs.Interleaved.{interleaving_none, interleaving_next, interleaving_all}
 use Rattle.tile.proofs.interleave.Goals as goal
 
 pub loop-n-init : goal.loop-n-init

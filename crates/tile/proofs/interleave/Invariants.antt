@@ -1,7 +1,5 @@
-use mathlib.Core.Path.{refl}
 use Prim.Native.Nat.{◌-◌}
-use borrow.Author.Rules.{rules}
-use Rattle.tile.proofs.Interleaved.{Interleaving, interleaving_none, interleaving_next, interleaving_all}
+use Rattle.tile.proofs.Interleaved.{Interleaving}
 use Rattle.tile.proofs.interleave.Given as goal
 
 abbrev pub invariant-loop-n : goal.invariant-loop-n

@@ -1,9 +1,8 @@
 use mathlib.Core.Path.{refl, sym}
-use Prim.Native.Nat.{◌-◌}
 use borrow.Author.Rules.{rules}
 use native.Mathlib.Omega.{arith}
 use Rattle.tile.specs.Copy.{zeros}
-use Rattle.tile.proofs.Copy.{Filling, fill_begin, fill_size, column_to, column_from, place_from, rows_next, rows_end}
+use Rattle.tile.proofs.Copy.{fill_begin, fill_size, column_to, column_from, place_from, rows_next, rows_end}
 use Rattle.tile.proofs.load.Goals as goal
 
 pub loop-n-init : goal.loop-n-init

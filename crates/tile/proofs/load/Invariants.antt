@@ -1,9 +1,5 @@
-use mathlib.Core.Path.{refl, sym}
 use Prim.Native.Nat.{◌-◌}
-use borrow.Author.Rules.{rules}
-use native.Mathlib.Omega.{arith}
-use Rattle.tile.specs.Copy.{zeros}
-use Rattle.tile.proofs.Copy.{Filling, fill_begin, fill_size, column_to, column_from, place_from, rows_next, rows_end}
+use Rattle.tile.proofs.Copy.{Filling}
 use Rattle.tile.proofs.load.Given as goal
 
 abbrev pub invariant-loop-n : goal.invariant-loop-n

@@ -1,10 +1,9 @@
 use mathlib.Core.Path.{◌≡◌, refl, sym, subst}
-use Prim.Native.Nat.{◌-◌}
 use borrow.Author.Rules.{rules}
 use native.Mathlib.Omega.{arith}
 use lib.ListN.{length}
 use Rattle.tile.specs.Copy.{Inside}
-use Rattle.tile.proofs.Copy.{RowsCopying, rows_begin, rows_size, some_rows, in_tile, column_to, column_from, place_to, rows_next, rows_end}
+use Rattle.tile.proofs.Copy.{rows_begin, rows_size, some_rows, in_tile, column_to, column_from, place_to, rows_next, rows_end}
 use Rattle.tile.proofs.store.Goals as goal
 
 pub loop-n-init : goal.loop-n-init

@@ -1,9 +1,6 @@
-use mathlib.Core.Path.{◌≡◌, ap, ◌∙◌}
-use Prim.Native.Nat.{ℕ, ◌-◌, ◌≤◌}
-use borrow.Author.Rules.{rules}
-use native.Mathlib.Omega.{arith}
-use Rattle.shuffle.specs.Transposed.{transposed}
-use Rattle.tile.proofs.Interleaved.{repeated, repeated_none, repeated_more}
+use mathlib.Core.Path.{◌≡◌}
+use Prim.Native.Nat.{◌-◌, ◌≤◌}
+use Rattle.tile.proofs.Interleaved.{repeated}
 use Rattle.tile.proofs.transpose.Given as goal
 
 abbrev pub invariant-loop-n : goal.invariant-loop-n

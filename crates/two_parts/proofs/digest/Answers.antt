@@ -1,7 +1,6 @@
 use mathlib.Core.Path.{sym, ◌∙◌}
 use mathlib.Core.Bool.{true, false}
 use mathlib.Core.List.{◌++◌}
-use borrow.Author.Rules.{rules}
 use Rattle.digest.proofs.OneCall.{by_kind}
 use Rattle.two_parts.proofs.digest.Goals as goal
 

@@ -1,4 +1,3 @@
-use borrow.Author.Rules.{rules}
 use Rattle.digest.proofs.Answers.{wide_sized}
 use Rattle.digest.proofs.TwoParts.{opening_refused, first_refused, second_refused, both_fed}
 use Rattle.wide.proofs.Whole.{opened_parts, fed_parts}

@@ -1,11 +1,8 @@
-use Prim.Native.Nat.{◌-◌}
-use mathlib.Core.Path.{◌≡◌}
 use native.Mathlib.Omega.{arith}
 use borrow.Author.Rules.{rules}
 use borrow.Author.Tests.{not-true, not-false}
-use lib.ListN.{length}
 use Rattle.answer.proofs.Tests as Tests
-use Rattle.verifier.proofs.Loop.{Replayed, begin, some_bytes, room, few, holds_all, all_done, one_done, found_false, goes_on}
+use Rattle.verifier.proofs.Loop.{begin, some_bytes, room, few, holds_all, all_done, one_done, found_false, goes_on}
 use mathlib.Core.Path.{ap}
 use mathlib.Core.Bool.{not}
 use Rattle.verifier.proofs.first_false.Goals as goal

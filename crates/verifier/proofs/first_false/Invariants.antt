@@ -1,13 +1,7 @@
 use Prim.Native.Nat.{◌-◌}
 use mathlib.Core.Path.{◌≡◌}
-use native.Mathlib.Omega.{arith}
-use borrow.Author.Rules.{rules}
-use borrow.Author.Tests.{not-true, not-false}
 use lib.ListN.{length}
-use Rattle.answer.proofs.Tests as Tests
-use Rattle.verifier.proofs.Loop.{Replayed, begin, some_bytes, room, few, holds_all, all_done, one_done, found_false, goes_on}
-use mathlib.Core.Path.{ap}
-use mathlib.Core.Bool.{not}
+use Rattle.verifier.proofs.Loop.{Replayed}
 use Rattle.verifier.proofs.first_false.Given as goal
 
 abbrev pub invariant-loop-from : goal.invariant-loop-from

@@ -1,5 +1,4 @@
 use mathlib.Core.Path.{sym}
-use borrow.Author.Rules.{rules}
 use lib.Seq.{length-take-le}
 use Rattle.digest.specs.Kind.{wide_kind}
 use Rattle.digest.proofs.Cases.{closed_by}

@@ -1,7 +1,6 @@
 use mathlib.Core.Path.{ap, ◌∙◌}
 use mathlib.Core.List.{append-nil}
 use native.Mathlib.Nat.{div-mul-le_self}
-use borrow.Author.Rules.{rules}
 use lib.ListN.{length}
 use Rattle.digest.specs.Blocks.{filled}
 use Rattle.memory.proofs.Lists.{to_end}

@@ -1,5 +1,4 @@
 use Rattle.word.specs.Word.{plus}
-use Rattle.std.proofs.Common.{rules}
 use Rattle.word.proofs.add64.Goals as goal
 
 pub returns : goal.returns

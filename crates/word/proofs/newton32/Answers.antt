@@ -1,5 +1,4 @@
 use Rattle.word.proofs.Wrapping.{newton_words}
-use Rattle.std.proofs.Common.{rules}
 use Rattle.word.proofs.newton32.Goals as goal
 
 pub returns : goal.returns

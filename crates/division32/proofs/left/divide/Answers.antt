@@ -1,5 +1,4 @@
 use Rattle.quasigroup.specs.Division.{left_division}
-use borrow.Author.Rules.{rules}
 use Rattle.division32.proofs.left.divide.Goals as goal
 
 pub returns : goal.returns

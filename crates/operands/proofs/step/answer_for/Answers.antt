@@ -1,4 +1,3 @@
-use borrow.Author.Rules.{rules}
 use Rattle.answer.proofs.Tests.{goes_on, stops}
 use Rattle.operands.proofs.StepTests.{unknown_refused, operand_refused, accepted}
 use mathlib.Core.Path.{ap}
