@@ -570,7 +570,7 @@ fn examples_256(rt: &impl Print) -> io::Result<()> {
     )
 }
 
-fn wide_examples(rt: &impl Print) -> io::Result<()> {
+fn examples_384(rt: &impl Print) -> io::Result<()> {
     first(rt, 384, 128, 32, b"FF68D7F45AAD286F5360E5BA091DA415")?;
     second(
         rt,
@@ -590,7 +590,10 @@ fn wide_examples(rt: &impl Print) -> io::Result<()> {
         384,
         128,
         b"46DF6287B91B433E421F8594D41F8501BA074BC4C64CE0D48D19A5D18EE823AD7DF488C780D54C3120B86CD728C20A16",
-    )?;
+    )
+}
+
+fn examples_512(rt: &impl Print) -> io::Result<()> {
     first(
         rt,
         512,
@@ -617,6 +620,11 @@ fn wide_examples(rt: &impl Print) -> io::Result<()> {
         128,
         b"A69CA444D01E741CB7683A66C060D8C03F33A57E62BA50B880DF0A63900C6C36BEE535444C6EBB3178F48F551D5F244787AD07F07F96A4B3781A9E5EFB625F28",
     )
+}
+
+fn wide_examples(rt: &impl Print) -> io::Result<()> {
+    examples_384(rt)?;
+    examples_512(rt)
 }
 
 fn main(rt: HostRuntime) -> io::Result<()> {

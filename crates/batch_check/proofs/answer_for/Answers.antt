@@ -1,6 +1,6 @@
 use native.Mathlib.Omega.{arith}
-use borrow.Author.Tests.{eq-eqb, le-leb, lt-leb, ne_eqb}
-use Rattle.batch.proofs.Ended.{ends_unknown, ends_many, few_bytes, ends_other, ends_short, ends_room}
+use borrow.Author.Tests.{eq-eqb, le-leb, lt-leb}
+use Rattle.batch.proofs.Ended.{ends_unknown, ends_many, few_bytes, ends_short, ends_room}
 use mathlib.Core.Path.{ap}
 use mathlib.Core.Bool.{not}
 use Rattle.batch_check.proofs.answer_for.Goals as goal
@@ -14,12 +14,6 @@ pub returns-then-not-few : goal.returns-then-not-few
 returns-then-not-few c =
     let a = c.args in
     ends_many a.size a.joined a.lengths.now a.room c.is_known-known.ensures c.total_length-sum.ensures (ap not c.if-not-known.false) (ap not (lt-leb _ _ c.if-not-few.true))
-
-pub returns-then-not-whole : goal.returns-then-not-whole
-returns-then-not-whole c =
-    let a = c.args in
-    ends_other a.size a.joined a.lengths.now a.room c.is_known-known.ensures c.total_length-sum.ensures (ap not c.if-not-known.false) (ap not (le-leb _ _ c.if-not-few.false))
-    (ap not (ne_eqb _ _ c.if-not-whole.true))
 
 pub overflow_mul-written : goal.overflow_mul-written
 overflow_mul-written c =

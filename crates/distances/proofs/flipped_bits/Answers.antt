@@ -1,5 +1,5 @@
-use borrow.Author.Tests.{le-leb, lt-leb}
-use Rattle.hamming.proofs.Ended.{ends_not_whole, ends_short, asked, ends_counted}
+use borrow.Author.Tests.{le-leb}
+use Rattle.hamming.proofs.Ended.{ends_not_whole, asked, ends_counted}
 use mathlib.Core.Path.{ap}
 use mathlib.Core.Bool.{not}
 use Rattle.distances.proofs.flipped_bits.Goals as goal
@@ -8,15 +8,6 @@ pub returns-then-not-whole : goal.returns-then-not-whole
 returns-then-not-whole c =
     let a = c.args in
     let both = ends_not_whole a.records.now a.counts.now c.whole_pairs-whole.ensures (ap not c.if-not-whole.true) in
-    record {
-      value = both.0;
-      counts_after = both.1;
-    }
-
-pub returns-then-not-room : goal.returns-then-not-room
-returns-then-not-room c =
-    let a = c.args in
-    let both = ends_short a.records.now a.counts.now c.whole_pairs-whole.ensures (ap not c.if-not-whole.false) (ap not (lt-leb _ _ c.if-not-room.true)) in
     record {
       value = both.0;
       counts_after = both.1;

@@ -1,4 +1,4 @@
-use Rattle.hmac.proofs.Ended.{ends_unknown, ends_long, ends_short, ends_room}
+use Rattle.hmac.proofs.Ended.{ends_unknown, ends_long, ends_room}
 use mathlib.Core.Path.{ap}
 use mathlib.Core.Bool.{not}
 use Rattle.hmac_check.proofs.making.Goals as goal
@@ -12,12 +12,6 @@ pub returns-then-not-fits : goal.returns-then-not-fits
 returns-then-not-fits c =
     let a = c.args in
     ends_long a.size a.key a.message c.is_known-known.ensures c.is_fitting-fits.ensures (ap not c.if-not-known.false) _ (ap not c.if-not-fits.true)
-
-pub returns-then-short : goal.returns-then-short
-returns-then-short c =
-    let a = c.args in
-    ends_short a.size a.key a.message c.is_known-known.ensures c.is_fitting-fits.ensures (ap not c.if-not-known.false) (ap not c.if-not-fits.false) a.room c.is_short-short.ensures
-    c.if-short.true
 
 pub returns : goal.returns
 returns c =

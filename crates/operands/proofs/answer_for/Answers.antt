@@ -1,5 +1,5 @@
 use Rattle.answer.proofs.Tests.{goes_on, stops}
-use Rattle.operands.proofs.Tests.{unknown_refused, operand_refused, output_refused, accepted}
+use Rattle.operands.proofs.Tests.{unknown_refused, operand_refused}
 use mathlib.Core.Path.{ap}
 use mathlib.Core.Bool.{not}
 use Rattle.operands.proofs.answer_for.Goals as goal
@@ -14,15 +14,3 @@ returns-then-not-operands_fit c =
     let a = c.args in
     operand_refused a.width a.x.now a.y.now a.out.now (goes_on c.known_width.ensures (ap not c.if-not-known_width.false))
     (stops c.operands_fit.ensures (ap not c.if-not-operands_fit.true))
-
-pub returns-then-out-w : goal.returns-then-out-w
-returns-then-out-w c =
-    let a = c.args in
-    output_refused a.width a.x.now a.y.now a.out.now (goes_on c.known_width.ensures (ap not c.if-not-known_width.false))
-    (goes_on c.operands_fit.ensures (ap not c.if-not-operands_fit.false)) c.if-out-w.true
-
-pub returns : goal.returns
-returns c =
-    let a = c.args in
-    accepted a.width a.x.now a.y.now a.out.now (goes_on c.known_width.ensures (ap not c.if-not-known_width.false))
-    (goes_on c.operands_fit.ensures (ap not c.if-not-operands_fit.false)) c.if-out-w.false

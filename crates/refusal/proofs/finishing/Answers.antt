@@ -1,5 +1,5 @@
 use mathlib.Core.Path.{sym, ◌∙◌}
-use borrow.Author.Tests.{ltb-true, ltb-false, le-leb, lt-leb}
+use borrow.Author.Tests.{ltb-false, le-leb, lt-leb}
 use Rattle.answer.proofs.Tests.{goes_on, stops}
 use mathlib.Core.Path.{ap}
 use mathlib.Core.Bool.{not}
@@ -10,14 +10,6 @@ returns-then-not-in_form c = rw (stops c.in_form.ensures (ap not c.if-not-in_for
 
 pub returns-then-over : goal.returns-then-over
 returns-then-over c = rw (goes_on c.in_form.ensures (ap not c.if-not-in_form.false), lt-leb _ _ c.if-over.true)
-
-pub returns-then-short : goal.returns-then-short
-returns-then-short c =
-    rw (
-      goes_on c.in_form.ensures (ap not c.if-not-in_form.false),
-      le-leb _ _ c.if-over.false,
-      lt-leb _ _ (ltb-true _ _ (sym c.is_short-short.ensures ∙ c.if-short.true)),
-    )
 
 pub returns : goal.returns
 returns c =

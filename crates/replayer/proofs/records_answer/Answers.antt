@@ -1,5 +1,5 @@
 use Prim.Native.Nat.{◌*◌, ◌/◌, ◌%◌}
-use borrow.Author.Tests.{eq-eqb, ne_eqb, lt-leb, le-leb}
+use borrow.Author.Tests.{eq-eqb, ne_eqb, le-leb}
 use Rattle.shuffle.proofs.Widths.{sized}
 use Rattle.replayer.proofs.records_answer.Goals as goal
 
@@ -11,11 +11,6 @@ nonzero_div-count c = (sized c.args.width c.requires).some
 
 pub returns-then-rest-ne0 : goal.returns-then-rest-ne0
 returns-then-rest-ne0 c = let a = c.args in rw (ne_eqb (a.n % (8 * a.width)) 0 c.if-rest-ne0.true)
-
-pub returns-then-commands-count : goal.returns-then-commands-count
-returns-then-commands-count c =
-    let a = c.args in
-    rw (eq-eqb (a.n % (8 * a.width)) 0 c.if-rest-ne0.false, lt-leb (a.n / (8 * a.width)) a.commands c.if-commands-count.true)
 
 pub returns : goal.returns
 returns c =

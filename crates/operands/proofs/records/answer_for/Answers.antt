@@ -2,7 +2,7 @@ use native.Mathlib.Omega.{arith}
 use lib.ListN.{length}
 use Rattle.answer.proofs.Tests.{goes_on, stops}
 use Rattle.shuffle.proofs.Widths.{sized}
-use Rattle.operands.proofs.RecordTests.{unknown_refused, broken_refused, output_refused, accepted}
+use Rattle.operands.proofs.RecordTests.{unknown_refused, broken_refused, accepted}
 use mathlib.Core.Path.{ap}
 use mathlib.Core.Bool.{not}
 use Rattle.operands.proofs.records.answer_for.Goals as goal
@@ -23,15 +23,6 @@ pub returns-then-rest-ne0 : goal.returns-then-rest-ne0
 returns-then-rest-ne0 c =
     let both = broken_refused c.args.width (length c.args.records.now) (length c.args.out.now) (omega (arith, c.well_formed))
     (goes_on c.known_width.ensures (ap not c.if-not-known_width.false)) c.if-rest-ne0.true in
-    record {
-      value = both.0;
-      fits = both.1;
-    }
-
-pub returns-then-out-records : goal.returns-then-out-records
-returns-then-out-records c =
-    let both = output_refused c.args.width (length c.args.records.now) (length c.args.out.now) (omega (arith, c.well_formed))
-    (goes_on c.known_width.ensures (ap not c.if-not-known_width.false)) c.if-rest-ne0.false c.if-out-records.true in
     record {
       value = both.0;
       fits = both.1;
