@@ -1,12 +1,12 @@
 -- Numbers are injective: a refusal is found again from its number.
+use Rattle.std.specs.Prelude.{Ok, Err}
 use mathlib.Core.Path.{◌≡◌, refl, sym, ap, ◌∙◌}
 use mathlib.Core.Bool.{Bool, true, cond}
 use Prim.Native.Nat.{ℕ, ◌+◌, ◌^◌, ◌<◌, ◌≤◌}
 use native.Mathlib.Omega.{arith}
 use borrow.Author.Tests.{lt-ltb, le-ltb}
 use lib.Dec.{eqb, ltb, lit≤}
-use Rattle.answer.specs.declared.Answer.{Answer}
-use Rattle.answer.specs.declared.Answer.TheVariants.{Done, Refused}
+use Rattle.answer.specs.Answer.{Answer, refused_at}
 use Rattle.answer.specs.declared.Refusal.{Refusal}
 use Rattle.answer.specs.declared.Refusal.TheVariants.{Size, State, Length, Output, Width, Operand, Sheet, Opcode, Truncated, Place, SamePlace}
 use Rattle.answer.specs.declared.Refusal.TheVariants.{MessageCount, JoinedLength, Start, BitCount, Records, RecordCount, Pairs}
@@ -79,29 +79,29 @@ positive Records = lit≤ tt
 positive RecordCount = lit≤ tt
 positive Pairs = lit≤ tt
 
-refused_one : (r s : Refusal) (i j : ℕ) → i < 2 ^ 32 → j < 2 ^ 32 → number_of (Refused r i) ≡ number_of (Refused s j)
-    → ◌≡◌ {A = Answer} (Refused r i) (Refused s j)
+refused_one : (r s : Refusal) (i j : ℕ) → i < 2 ^ 32 → j < 2 ^ 32 → number_of (refused_at r i) ≡ number_of (refused_at s j)
+    → ◌≡◌ {A = Answer} (refused_at r i) (refused_at s j)
 refused_one r s i j p q e =
     let f : refusal_number r ≡ refusal_number s = omega arith in
     let g : i ≡ j = omega arith in
-    λ t. Refused (refusal_one r s f t) (g t)
+    λ t. refused_at (refusal_one r s f t) (g t)
 
 -- a numbering whose successes are their own numbers and whose refusals stand at or above a bound, at a distance from `number_of`
 record Numbering (number : Answer → ℕ) (bound mark : ℕ) : Type 0 where
-  own : (n : ℕ) → number (Done n) ≡ n
-  apart : (r : Refusal) (at : ℕ) → number (Refused r at) ≡ mark + number_of (Refused r at)
-  high : (r : Refusal) (at : ℕ) → bound ≤ number (Refused r at)
+  own : (n : ℕ) → number (Ok n) ≡ n
+  apart : (r : Refusal) (at : ℕ) → number (refused_at r at) ≡ mark + number_of (refused_at r at)
+  high : (r : Refusal) (at : ℕ) → bound ≤ number (refused_at r at)
 
 module _ (number : Answer → ℕ) (bound mark : ℕ) (h : Numbering number bound mark) where
   one : (a b : Answer) → Fits bound a → Fits bound b → number a ≡ number b → a ≡ b
-  one (Done m) (Done n) p q e = ap Done (sym (h.own m) ∙ e ∙ h.own n)
-  one (Done m) (Refused s j) p q e = absurd (omega (arith, h.own m, h.high s j))
-  one (Refused r i) (Done n) p q e = absurd (omega (arith, h.own n, h.high r i))
-  one (Refused r i) (Refused s j) p q e = refused_one r s i j p q (omega (arith, h.apart r i, h.apart s j))
+  one (Ok m) (Ok n) p q e = ap Ok (sym (h.own m) ∙ e ∙ h.own n)
+  one (Ok m) (Err err) p q e = absurd (omega (arith, h.own m, h.high err.refusal err.offset))
+  one (Err err) (Ok n) p q e = absurd (omega (arith, h.own n, h.high err.refusal err.offset))
+  one (Err err) (Err err2) p q e = refused_one err.refusal err2.refusal err.offset err2.offset p q (omega (arith, h.apart err.refusal err.offset, h.apart err2.refusal err2.offset))
 
   refusal_tested : (a : Answer) → Fits bound a → is_done a ≡ ltb (number a) bound
-  refusal_tested (Done n) p = sym (lt-ltb (number (Done n)) bound (omega (arith, h.own n)))
-  refusal_tested (Refused r at) p = sym (le-ltb (number (Refused r at)) bound (h.high r at))
+  refusal_tested (Ok n) p = sym (lt-ltb (number (Ok n)) bound (omega (arith, h.own n)))
+  refusal_tested (Err err) p = sym (le-ltb (number (Err err)) bound (h.high err.refusal err.offset))
 
   injective : Injective number bound
   injective = record { answer = one; refusal = refusal_tested }

@@ -1,4 +1,5 @@
 pub mod Tests
 pub mod Refuse
+pub mod Results
 pub mod Outcome
 pub mod Injective

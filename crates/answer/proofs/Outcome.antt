@@ -1,9 +1,9 @@
 -- What a call leaves that may be refused: once its answer is told, and by the call that takes it back.
+use Rattle.std.specs.Prelude.{Ok}
 use mathlib.Core.Path.{◌≡◌, refl, ap, ◌∙◌}
 use mathlib.Core.Bool.{Bool, true, false, not}
 use Prim.Native.Nat.{ℕ}
-use Rattle.answer.specs.declared.Answer.{Answer}
-use Rattle.answer.specs.declared.Answer.TheVariants.{Done, Refused}
+use Rattle.answer.specs.Answer.{Answer, refused_at}
 use Rattle.answer.specs.declared.Refusal.{Refusal}
 use Rattle.answer.specs.Refuse.{is_done, outcome}
 use Rattle.answer.proofs.Tests.{goes_on, stops}
@@ -20,7 +20,7 @@ module _ {A : Type 0} {a r : Answer} (new old : A) (e : r ≡ a) {done : Bool} (
 -- An answer that depends on the state s by its size alone, and is a refusal or, behind the tests, a success. Where these are passed f keeps the size and
 -- what holds of s, and g takes f back: then the two calls, refused or not, do the same.
 module _ {S : Type 0} (I : S → Type 0) (size : S → ℕ) (answer : ℕ → Answer) (f g : S → S) (s : S) {Passed : Type 0}
-    (cases : (P : Answer → Type 0) → ((r : Refusal) (i : ℕ) → P (Refused r i)) → (Passed → (n : ℕ) → P (Done n)) → P (answer (size s))) where
+    (cases : (P : Answer → Type 0) → ((r : Refusal) (i : ℕ) → P (refused_at r i)) → (Passed → (n : ℕ) → P (Ok n)) → P (answer (size s))) where
   abbrev left : Answer → S
   left a = outcome a (f s) s
 

@@ -1,3 +1,4 @@
+pub mod Answer
 pub mod Number
 pub mod Refuse
 pub mod Injective

@@ -1,8 +1,7 @@
 -- Document 01, "What each operation refuses", and for 12 and 13, 14, 15, 16, 17 and 19 document 02, Papers 2, 5, 7, 13, 10 and 14: the number of each refusal,
 -- and an answer as one number for C.
-use Rattle.std.specs.Prelude.{ℕ, ◌+◌, ◌*◌, ◌^◌}
-use Rattle.answer.specs.declared.Answer.{Answer}
-use Rattle.answer.specs.declared.Answer.TheVariants.{Done, Refused}
+use Rattle.std.specs.Prelude.{ℕ, ◌+◌, ◌*◌, ◌^◌, Ok, Err}
+use Rattle.answer.specs.Answer.{Answer, refused_at}
 use Rattle.answer.specs.declared.Refusal.{Refusal}
 use Rattle.answer.specs.declared.Refusal.TheVariants.{Size, State, Length, Output, Width, Operand, Sheet, Opcode, Truncated, Place, SamePlace}
 use Rattle.answer.specs.declared.Refusal.TheVariants.{MessageCount, JoinedLength, Start, BitCount, Records, RecordCount, Pairs}
@@ -29,10 +28,10 @@ refusal_number Pairs = 19
 
 -- a success's own number, or 2^32 times the refusal number plus the offset
 abbrev pub number_of : Answer → ℕ
-number_of (Done n) = n
-number_of (Refused r at) = refusal_number r * 2 ^ 32 + at
+number_of (Ok n) = n
+number_of (Err err) = refusal_number err.refusal * 2 ^ 32 + err.offset
 
 -- The same for a call whose success can pass 2^32, as a total of bytes can: a refusal has bit 63 set besides.
 abbrev pub marked_number : Answer → ℕ
-marked_number (Done n) = n
-marked_number (Refused r at) = 2 ^ 63 + number_of (Refused r at)
+marked_number (Ok n) = n
+marked_number (Err err) = 2 ^ 63 + number_of (Err err)

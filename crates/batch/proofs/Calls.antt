@@ -1,4 +1,5 @@
 -- One call for each message leaves the digests one behind the other.
+use Rattle.std.specs.Prelude.{Ok}
 use mathlib.Core.Path.{◌≡◌, refl, ap, ap₂, sym, ◌∙◌}
 use mathlib.Core.Bool.{true, false}
 use mathlib.Core.List.{List, [], ◌∷◌, ◌++◌}
@@ -7,8 +8,7 @@ use native.Mathlib.Nat.{zero-mul, suc-mul}
 use native.Mathlib.Omega.{arith}
 use lib.ListN.{length, take, drop, replicate, length-drop, take-append-drop}
 use lib.Seq.{drop-drop}
-use Rattle.answer.specs.declared.Answer.{Answer}
-use Rattle.answer.specs.declared.Answer.TheVariants.{Done, Refused}
+use Rattle.answer.specs.Answer.{Answer, refused_at}
 use Rattle.answer.specs.declared.Refusal.TheVariants.{Size}
 use Rattle.answer.specs.Refuse.{is_done, outcome}
 use Rattle.invertible.specs.Invertible.{stepped, outputs, Each, none, more}
@@ -44,14 +44,14 @@ module _ (n : ℕ) (known : Known n) where
 
   -- one call, lent the part from i on
   pub call_writes : (m o : List ℕ) (i : ℕ) → Short m → i + w ≤ length o
-      → (one_call_answer n m (drop i o) ≡ Done w) × (take i o ++ one_call_out n m (drop i o) ≡ placed o i w (digest_for n m))
+      → (one_call_answer n m (drop i o) ≡ Ok w) × (take i o ++ one_call_out n m (drop i o) ≡ placed o i w (digest_for n m))
   call_writes m o i h g =
       let c = one_call_writes n m (drop i o) known h (omega (arith, length-drop i o)) in
       (c.0, ap (λ (x : List ℕ). take i o ++ x) (c.1 ∙ ap (λ (x : List ℕ). digest_for n m ++ x) (drop-drop w i o)))
 
   calls_write : (ms : List (List ℕ)) (k : ℕ) (o : List ℕ) (e : ℕ) → Each Short ms → e ≡ k * w + length ms * w → e ≤ length o
       → (stepped (after n) (calls_from n k ms) o ≡ take (k * w) o ++ (digests n ms ++ drop e o))
-      × (outputs (after n) (answer_to n) (calls_from n k ms) o ≡ replicate (length ms) (Done w))
+      × (outputs (after n) (answer_to n) (calls_from n k ms) o ≡ replicate (length ms) (Ok w))
   calls_write [] k o e h f g =
       let z : k * w ≡ e = omega (arith, zero-mul w) in
       (sym (take-append-drop (k * w) o) ∙ ap (λ (x : ℕ). take (k * w) o ++ drop x o) z, refl)
@@ -81,13 +81,13 @@ as_calls n s ns out b d =
       written =
           c.0 ∙ ap (λ (x : ℕ). take x out ++ (digests n (messages s ns) ++ drop e out)) (zero-mul (n / 8))
           ∙ sym (out_after n s ns out a);
-      answers = c.1 ∙ ap (λ (j : ℕ). replicate j (Done (n / 8))) (messages_count s ns);
+      answers = c.1 ∙ ap (λ (j : ℕ). replicate j (Ok (n / 8))) (messages_count s ns);
       sum = answered n (length s) ns (length out) a;
     }
 
 -- of a size that is none of the four
 module _ (n : ℕ) (e : known_size (kind_for n) n ≡ false) where
-  one_refused : (m out : List ℕ) → one_call_answer n m out ≡ Refused Size 0
+  one_refused : (m out : List ℕ) → one_call_answer n m out ≡ refused_at Size 0
   one_refused m out = rw e refl
 
   part_stays : (m : List ℕ) (i : ℕ) (o : List ℕ) → take i o ++ one_call_out n m (drop i o) ≡ o
@@ -96,7 +96,7 @@ module _ (n : ℕ) (e : known_size (kind_for n) n ≡ false) where
       ∙ take-append-drop i o
 
   calls_refused : (ms : List (List ℕ)) (k : ℕ) (o : List ℕ)
-      → (stepped (after n) (calls_from n k ms) o ≡ o) × (outputs (after n) (answer_to n) (calls_from n k ms) o ≡ replicate (length ms) (Refused Size 0))
+      → (stepped (after n) (calls_from n k ms) o ≡ o) × (outputs (after n) (answer_to n) (calls_from n k ms) o ≡ replicate (length ms) (refused_at Size 0))
   calls_refused [] k o = (refl, refl)
   calls_refused (m ∷ ms) k o =
       let i = k * (n / 8) in
@@ -111,7 +111,7 @@ refused_alike n s ns out e =
     let c = calls_refused n e (messages s ns) 0 out in
     record {
       unchanged = c.0;
-      answers = c.1 ∙ ap (λ (j : ℕ). replicate j (Refused Size 0)) (messages_count s ns);
+      answers = c.1 ∙ ap (λ (j : ℕ). replicate j (refused_at Size 0)) (messages_count s ns);
       batch = unknown_size n (length s) ns (length out) e;
     }
 

@@ -1,4 +1,5 @@
 -- What the code of the call answers and leaves once its tests have come out.
+use Rattle.std.specs.Prelude.{Ok}
 use mathlib.Core.Path.{◌≡◌, sym, ap, ◌∙◌}
 use mathlib.Core.Bool.{Bool, true, false, not}
 use mathlib.Core.List.{List, ◌++◌}
@@ -6,8 +7,7 @@ use Prim.Native.Nat.{ℕ, ◌≤◌, ◌<◌}
 use borrow.Author.Tests.{leb-true, not-true, not-false, le-leb, lt-leb}
 use lib.Dec.{eqb, leb}
 use lib.ListN.{length, drop}
-use Rattle.answer.specs.declared.Answer.{Answer}
-use Rattle.answer.specs.declared.Answer.TheVariants.{Done, Refused}
+use Rattle.answer.specs.Answer.{Answer, refused_at}
 use Rattle.answer.specs.declared.Refusal.TheVariants.{Size, MessageCount, JoinedLength, Output}
 use Rattle.answer.specs.Refuse.{is_done}
 use Rattle.answer.proofs.Tests.{goes_on, stops}
@@ -24,11 +24,11 @@ module _ (n joined : ℕ) (ns : List ℕ) (room : ℕ) {t : Bool} (e : t ≡ kno
   abbrev l : ℕ
   l = digests_length n (length ns)
 
-  pub ends_unknown : not t ≡ true → Refused Size 0 ≡ batch_answer n joined ns room
+  pub ends_unknown : not t ≡ true → refused_at Size 0 ≡ batch_answer n joined ns room
   ends_unknown h = sym (unknown_size n joined ns room (stops e h))
 
   module _ (h : not t ≡ false) where
-    pub ends_many : not (leb (length ns) 1024) ≡ true → Refused MessageCount 0 ≡ batch_answer n joined ns room
+    pub ends_many : not (leb (length ns) 1024) ≡ true → refused_at MessageCount 0 ≡ batch_answer n joined ns room
     ends_many g = sym (too_many n joined ns room (goes_on e h) (not-true (leb (length ns) 1024) g))
 
     module _ (g : not (leb (length ns) 1024) ≡ false) where
@@ -41,14 +41,14 @@ module _ (n joined : ℕ) (ns : List ℕ) (room : ℕ) {t : Bool} (e : t ≡ kno
       pub few_bytes : l ≤ 65536
       few_bytes = digests_bound n (length ns) (goes_on e h) (leb-true (length ns) 1024 few)
 
-      pub ends_other : not (eqb m joined) ≡ true → Refused JoinedLength 0 ≡ batch_answer n joined ns room
+      pub ends_other : not (eqb m joined) ≡ true → refused_at JoinedLength 0 ≡ batch_answer n joined ns room
       ends_other f = sym (other_sum n joined ns room (goes_on e h) few (stops sum_is f))
 
       module _ (f : not (eqb m joined) ≡ false) where
-        pub ends_short : room < l → Refused Output 0 ≡ batch_answer n joined ns room
+        pub ends_short : room < l → refused_at Output 0 ≡ batch_answer n joined ns room
         ends_short r = sym (no_room n joined ns room (goes_on e h) few (goes_on sum_is f) (lt-leb l room r))
 
-        pub ends_room : l ≤ room → Done l ≡ batch_answer n joined ns room
+        pub ends_room : l ≤ room → Ok l ≡ batch_answer n joined ns room
         ends_room r = sym (done n joined ns room (goes_on e h) few (goes_on sum_is f) (le-leb l room r))
 
 -- ---- the call, by its answer

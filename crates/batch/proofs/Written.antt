@@ -1,12 +1,12 @@
 -- What a success writes and answers.
+use Rattle.std.specs.Prelude.{Ok}
 use mathlib.Core.Path.{◌≡◌, ap, sym, ◌∙◌}
 use mathlib.Core.List.{List, ◌++◌}
 use Prim.Native.Nat.{ℕ, ◌*◌, ◌/◌, ◌<◌}
 use native.Mathlib.Omega.{arith}
 use lib.ListN.{length, drop, length-append, length-drop}
 use lib.Seq.{drop_at}
-use Rattle.answer.specs.declared.Answer.{Answer}
-use Rattle.answer.specs.declared.Answer.TheVariants.{Done}
+use Rattle.answer.specs.Answer.{Answer}
 use Rattle.answer.specs.Refuse.{outcome}
 use Rattle.memory.specs.Lists.{bytes_at}
 use Rattle.digest.specs.OneCall.{digest_for}
@@ -42,8 +42,8 @@ module _ (n : ℕ) (s ns out : List ℕ) (a : Accepted n (length s) ns (length o
   behind : drop e (batch_out n s ns out) ≡ drop e out
   behind = ap (drop e) out_after ∙ drop_at all (drop e out) e all_length
 
-  count : batch_answer n (length s) ns (length out) ≡ Done (length all)
-  count = answered n (length s) ns (length out) a ∙ ap Done (sym all_length)
+  count : batch_answer n (length s) ns (length out) ≡ Ok (length all)
+  count = answered n (length s) ns (length out) a ∙ ap Ok (sym all_length)
 
 pub success_writes : SuccessWrites
 success_writes n s ns out d =

@@ -1,7 +1,6 @@
 -- Document 02, Paper 2: the digests of many messages in one call. The messages are joined together, and come with a list of their lengths.
-use Rattle.std.specs.Prelude.{List, [], ◌∷◌, ◌++◌, ℕ, ◌*◌, ◌/◌, eqb, leb, length, take, drop}
-use Rattle.answer.specs.declared.Answer.{Answer}
-use Rattle.answer.specs.declared.Answer.TheVariants.{Done}
+use Rattle.std.specs.Prelude.{List, [], ◌∷◌, ◌++◌, ℕ, ◌*◌, ◌/◌, eqb, leb, length, take, drop, Ok}
+use Rattle.answer.specs.Answer.{Answer}
 use Rattle.answer.specs.declared.Refusal.TheVariants.{Size, MessageCount, JoinedLength, Output}
 use Rattle.answer.specs.Refuse.{unless, outcome}
 use Rattle.memory.specs.Lists.{total}
@@ -30,7 +29,7 @@ batch_answer n joined ns room =
     (unless (leb (length ns) 1024) MessageCount
     (unless (eqb (total ns) joined) JoinedLength
     (unless (leb (digests_length n (length ns)) room) Output
-    (Done (digests_length n (length ns))))))
+    (Ok (digests_length n (length ns))))))
 
 -- the output after the call: the digests, and the bytes behind the last of them as they were; or, after a refusal, all as it was
 abbrev pub batch_out : ℕ → List ℕ → List ℕ → List ℕ → List ℕ

@@ -1,7 +1,6 @@
 -- Document 02, Paper 2: "The result equals one call for each message." The statement; proofs/Calls.antt shows it.
-use Rattle.std.specs.Prelude.{◌≡◌, true, false, List, [], ◌∷◌, ◌++◌, ℕ, suc, ◌*◌, ◌/◌, ◌^◌, length, take, drop, replicate}
-use Rattle.answer.specs.declared.Answer.{Answer}
-use Rattle.answer.specs.declared.Answer.TheVariants.{Done, Refused}
+use Rattle.std.specs.Prelude.{◌≡◌, true, false, List, [], ◌∷◌, ◌++◌, ℕ, suc, ◌*◌, ◌/◌, ◌^◌, length, take, drop, replicate, Ok}
+use Rattle.answer.specs.Answer.{Answer, refused_at}
 use Rattle.answer.specs.declared.Refusal.TheVariants.{Size}
 use Rattle.answer.specs.Refuse.{is_done}
 use Rattle.invertible.specs.Invertible.{stepped, outputs}
@@ -31,14 +30,14 @@ module _ (n : ℕ) where
 -- one call for each message, one after the other, leaves what the batch leaves; each of them succeeds, and the batch answers the sum of what they answer
 pub record AsCalls (n : ℕ) (s ns out : List ℕ) : Type 0 where
   pub written : stepped (after n) (calls_from n 0 (messages s ns)) out ≡ batch_out n s ns out
-  pub answers : outputs (after n) (answer_to n) (calls_from n 0 (messages s ns)) out ≡ replicate (length ns) (Done (n / 8))
-  pub sum : batch_answer n (length s) ns (length out) ≡ Done (length ns * (n / 8))
+  pub answers : outputs (after n) (answer_to n) (calls_from n 0 (messages s ns)) out ≡ replicate (length ns) (Ok (n / 8))
+  pub sum : batch_answer n (length s) ns (length out) ≡ Ok (length ns * (n / 8))
 
 -- of a size that is none of the four each of the calls is refused with 1, as the batch is, and they change nothing
 pub record RefusedAlike (n : ℕ) (s ns out : List ℕ) : Type 0 where
   pub unchanged : stepped (after n) (calls_from n 0 (messages s ns)) out ≡ out
-  pub answers : outputs (after n) (answer_to n) (calls_from n 0 (messages s ns)) out ≡ replicate (length ns) (Refused Size 0)
-  pub batch : batch_answer n (length s) ns (length out) ≡ Refused Size 0
+  pub answers : outputs (after n) (answer_to n) (calls_from n 0 (messages s ns)) out ≡ replicate (length ns) (refused_at Size 0)
+  pub batch : batch_answer n (length s) ns (length out) ≡ refused_at Size 0
 
 -- The first for every batch that is not refused; its lengths are below 2^32, as 32-bit numbers are. Behind the other refusals the two differ: 12 and 13 are the
 -- batch's own, and where 4 refuses it, calls would write the digests that there is room for

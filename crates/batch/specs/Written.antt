@@ -1,6 +1,5 @@
 -- Document 02, Paper 2, in its words: what a success writes and answers. The statement; proofs/Written.antt shows it.
-use Rattle.std.specs.Prelude.{◌≡◌, true, List, ℕ, ◌*◌, ◌/◌, ◌<◌, length, drop}
-use Rattle.answer.specs.declared.Answer.TheVariants.{Done}
+use Rattle.std.specs.Prelude.{◌≡◌, true, List, ℕ, ◌*◌, ◌/◌, ◌<◌, length, drop, Ok}
 use Rattle.answer.specs.Refuse.{is_done}
 use Rattle.memory.specs.Lists.{bytes_at}
 use Rattle.digest.specs.OneCall.{digest_for}
@@ -13,7 +12,7 @@ pub record Written (n : ℕ) (s ns out : List ℕ) : Type 0 where
   pub size : length (batch_out n s ns out) ≡ length out
   pub own : (k : ℕ) → k < length ns → bytes_at (n / 8) (batch_out n s ns out) (k * (n / 8)) ≡ digest_for n (message s ns k)
   pub behind : drop (digests_length n (length ns)) (batch_out n s ns out) ≡ drop (digests_length n (length ns)) out
-  pub count : batch_answer n (length s) ns (length out) ≡ Done (length (digests n (messages s ns)))
+  pub count : batch_answer n (length s) ns (length out) ≡ Ok (length (digests n (messages s ns)))
 
 abbrev pub SuccessWrites : Type 0
 SuccessWrites = (n : ℕ) (s ns out : List ℕ) → is_done (batch_answer n (length s) ns (length out)) ≡ true → Written n s ns out

@@ -1,4 +1,5 @@
 -- The quasigroup theorem for vectors in bytes: words and their bytes are the same vectors, written in two ways. And of what the calls write.
+use Rattle.std.specs.Prelude.{Ok, Err}
 use mathlib.Core.Path.{◌≡◌, refl, sym, ap, ◌∙◌, subst}
 use mathlib.Core.Bool.{true, ◌&&◌}
 use Prim.Native.Nat.{ℕ, ◌/◌, ◌≤◌}
@@ -7,8 +8,7 @@ use lib.ListN.{length, take, drop}
 use lib.Seq.{take_at, drop_at}
 use lib.Dec.{eqb}
 use borrow.Author.Tests.{eq-eqb}
-use Rattle.answer.specs.declared.Answer.{Answer}
-use Rattle.answer.specs.declared.Answer.TheVariants.{Done, Refused}
+use Rattle.answer.specs.Answer.{Answer, refused_at}
 use Rattle.answer.specs.Refuse.{outcome}
 use Rattle.answer.proofs.Refuse.{refused_outcome}
 use Rattle.memory.specs.Bytes.{words_at, bytes_of}
@@ -75,8 +75,8 @@ like w f g b {x} {y} k e h =
     }
 
 behind_stays : (w : ℕ) (a : Answer) (x out : List ℕ) → length x ≡ w → drop w (outcome a (x ++ drop w out) out) ≡ drop w out
-behind_stays w (Done n) x out e = drop_at x (drop w out) w e
-behind_stays w (Refused r i) x out e = refl
+behind_stays w (Ok n) x out e = drop_at x (drop w out) w e
+behind_stays w (Err err) x out e = refl
 
 product_eight : (s : Width) (x y : List ℕ) → length (product s x y) ≡ 8
 unfolding product
@@ -91,7 +91,7 @@ unfolding right_division unleft
 right_eight s x y = refl
 
 module _ (w : ℕ) (h : Bytewise w) where
-  done : (x y out : List ℕ) → InBytes w x → InBytes w y → w ≤ length out → answer_for w x y out ≡ Done w
+  done : (x y out : List ℕ) → InBytes w x → InBytes w y → w ≤ length out → answer_for w x y out ≡ Ok w
   done x y out hx hy room =
       let fit : (eqb (length x) w && eqb (length y) w) ≡ true = rw (eq-eqb (length x) w hx.size, eq-eqb (length y) w hy.size) in
       sym (accepted w x y out h.known fit room)

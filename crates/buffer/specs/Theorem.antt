@@ -1,6 +1,5 @@
 -- The quasigroup theorem on bytes: of the operations, and of what their calls write.
-use Rattle.std.specs.Prelude.{◌≡◌, false, List, ℕ, ◌≤◌, length, take, drop}
-use Rattle.answer.specs.declared.Answer.TheVariants.{Done}
+use Rattle.std.specs.Prelude.{◌≡◌, false, List, ℕ, ◌≤◌, length, take, drop, Ok}
 use Rattle.answer.specs.Refuse.{is_done}
 use Rattle.quasigroup.specs.Tables.{Width}
 use Rattle.quasigroup.specs.Product.{product}
@@ -33,7 +32,7 @@ BehindStays op w = (x y out : List ℕ) → drop w (output_after op w x y out) �
 -- what the call of the product writes, to an output of its own.
 pub record CallsSolve (w : ℕ) : Type 0 where
   -- such a call succeeds
-  pub done : (x y out : List ℕ) → InBytes w x → InBytes w y → w ≤ length out → answer_for w x y out ≡ Done w
+  pub done : (x y out : List ℕ) → InBytes w x → InBytes w y → w ≤ length out → answer_for w x y out ≡ Ok w
   pub closed : (x y out : List ℕ) → InBytes w x → InBytes w y → w ≤ length out → InBytes w (first_bytes product w x y out)
   pub left : (a b out out' : List ℕ) → InBytes w a → InBytes w b → w ≤ length out → w ≤ length out'
       → OnlySolution (InBytes w) (λ x. first_bytes product w a x out') b (first_bytes left_division w a b out)

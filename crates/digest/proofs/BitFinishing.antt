@@ -1,4 +1,5 @@
 -- Finishing with bits of a last byte: its refusals, the bits that matter, the count 0, and the largest total.
+use Rattle.std.specs.Prelude.{Ok}
 use mathlib.Core.Path.{◌≡◌, refl, ap, ap₂, sym, ◌∙◌}
 use mathlib.Core.Bool.{Bool, true, false}
 use mathlib.Core.List.{List, ◌∷◌, ◌++◌}
@@ -7,7 +8,6 @@ use native.Mathlib.Decide.{dec_le}
 use native.Mathlib.Omega.{arith}
 use borrow.Author.Tests.{le-leb, lt-leb}
 use lib.ListN.{length, drop, replicate, length-append}
-use Rattle.answer.specs.declared.Answer.TheVariants.{Done}
 use Rattle.answer.specs.Refuse.{outcome}
 use Rattle.answer.proofs.Refuse.{refused_outcome}
 use Rattle.digest.specs.Bits.{value_of, bits_of, bit_string, highest}
@@ -70,7 +70,7 @@ module _ (k : Kind) where
       )
 
   largest : (n : ℕ) (m : List ℕ) (last : ℕ) (out : List ℕ) → known_size k n ≡ true → length m ≡ limit → n / 8 ≤ length out
-      → (bit_digest_answer k n m 7 out ≡ Done (n / 8)) × (length (message m last 7) ≡ 2 ^ 64 - 1)
+      → (bit_digest_answer k n m 7 out ≡ Ok (n / 8)) × (length (message m last 7) ≡ 2 ^ 64 - 1)
   largest n m last out kn e l = (
     rw (kn, le-leb (length m) limit (omega arith), le-leb _ _ l),
     length-append (bit_string m) (highest 7 last) ∙ omega (arith, length-bit_string m, length_highest 7 last (omega arith)),

@@ -1,4 +1,5 @@
 -- Agreement over bit strings: the theorem of specs/BitStrings.antt, for every kind, and so for the narrow and the wide one.
+use Rattle.std.specs.Prelude.{Ok}
 use mathlib.Core.Path.{◌≡◌, ap, ap₂, sym, subst, ◌∙◌}
 use mathlib.Core.Bool.{Bool, true, false, cond}
 use mathlib.Core.List.{List, [], ◌∷◌, ◌++◌, append-nil}
@@ -9,8 +10,7 @@ use native.Mathlib.Omega.{arith}
 use borrow.Author.Tests.{le-leb, lt-leb}
 use lib.ListN.{length, take, drop, replicate, length-append, length-drop, length-replicate}
 use lib.Seq.{take_at}
-use Rattle.answer.specs.declared.Answer.{Answer}
-use Rattle.answer.specs.declared.Answer.TheVariants.{Done, Refused}
+use Rattle.answer.specs.Answer.{Answer, refused_at}
 use Rattle.answer.specs.declared.Refusal.{Refusal}
 use Rattle.answer.specs.declared.Refusal.TheVariants.{BitCount}
 use Rattle.answer.specs.Refuse.{outcome}
@@ -80,11 +80,11 @@ module _ (k : Kind) (pos : 0 < k.block) (big : 8 < k.block) where
     abbrev called : ℕ → List ℕ → Written
     called n m = record { answer = bit_digest_answer k n m count out; out = bit_digest_out k n m last count out }
 
-    refused_call : (n : ℕ) (m : List ℕ) {r : Refusal} → bit_digest_answer k n m count out ≡ Refused r 0 → record { answer = Refused r 0; out = out } ≡ called n m
+    refused_call : (n : ℕ) (m : List ℕ) {r : Refusal} → bit_digest_answer k n m count out ≡ refused_at r 0 → record { answer = refused_at r 0; out = out } ≡ called n m
     refused_call n m e = ap (λ (b : Answer). record { answer = b; out = outcome b (bit_digest_of k n (message m last count) ++ drop (n / 8) out) out }) (sym e)
 
-    refused_finish : (h : Hash) {r : Refusal} → finish_bits_answer k h count out ≡ Refused r 0
-        → finishes_bits k last count out h ≡ record { answer = Refused r 0; out = out }
+    refused_finish : (h : Hash) {r : Refusal} → finish_bits_answer k h count out ≡ refused_at r 0
+        → finishes_bits k last count out h ≡ record { answer = refused_at r 0; out = out }
     refused_finish h e = ap (λ (b : Answer). record { answer = b; out = outcome b (finished_bits k h last count ++ drop (h.size / 8) out) out }) e
 
     one_call : (n : ℕ) → known_size k n ≡ true → (m : List ℕ) → Bytes m → length m ≤ limit
@@ -137,13 +137,13 @@ module _ (k : Kind) (pos : 0 < k.block) (big : 8 < k.block) where
 
   every : (n : ℕ) (s : List Bool) (ss : List (List ℕ)) (last : ℕ) (out : List ℕ) → known_size k n ≡ true → length s ≤ 2 ^ 64 - 1
       → concatenated ss ≡ packed s → highest (length s % 8) last ≡ remainder s → n / 8 ≤ length out
-      → in_pieces_bits k n ss last (length s % 8) out ≡ record { answer = Done (n / 8); out = bit_digest_of k n s ++ drop (n / 8) out }
+      → in_pieces_bits k n ss last (length s % 8) out ≡ record { answer = Ok (n / 8); out = bit_digest_of k n s ++ drop (n / 8) out }
   every n s ss last out kn l es el room =
       let c = length s % 8 in
       let m = packed s in
       let lm : length m ≤ limit = omega (arith, length_packed s) in
       let few : c ≤ 7 = omega arith in
-      let a : bit_digest_answer k n m c out ≡ Done (n / 8) = rw (kn, le-leb _ _ lm, le-leb _ _ few, le-leb _ _ room) in
+      let a : bit_digest_answer k n m c out ≡ Ok (n / 8) = rw (kn, le-leb _ _ lm, le-leb _ _ few, le-leb _ _ room) in
       let i : message m last c ≡ s = ap (λ (u : List Bool). bit_string m ++ u) el ∙ whole_remainder s in
       whole n ss last c out (subst Bytes (sym es) (packed_are (length s / 8) s)) ∙ ap (called last c out n) es
       ∙ ap₂ {C = Written} (λ b t. record { answer = b; out = outcome b (bit_digest_of k n t ++ drop (n / 8) out) out }) a i

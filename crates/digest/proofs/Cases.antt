@@ -7,7 +7,7 @@ use Prim.Native.Nat.{ℕ, ◌+◌, ◌-◌, ◌*◌, ◌/◌, ◌%◌, ◌^◌, 
 use native.Mathlib.Nat.{div-mul-le_self, mod-lt, le_of_lt}
 use native.Mathlib.Omega.{arith}
 use lib.ListN.{length, take, drop}
-use Rattle.answer.specs.declared.Answer.{Answer}
+use Rattle.answer.specs.Answer.{Answer}
 use Rattle.answer.specs.Refuse.{is_done}
 use Rattle.answer.proofs.Tests.{goes_on, stops}
 use Rattle.answer.proofs.Refuse.{refused_outcome, done_outcome}

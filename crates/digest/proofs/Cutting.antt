@@ -1,4 +1,5 @@
 -- Every way of cutting a message: the theorem of specs/Cutting.antt, for every kind, and so for the narrow and the wide one and for the one call.
+use Rattle.std.specs.Prelude.{Ok}
 use mathlib.Core.Path.{◌≡◌, refl, ap, sym, ◌∙◌}
 use mathlib.Core.Bool.{Bool, true, false, cond}
 use mathlib.Core.List.{List, [], ◌∷◌, ◌++◌}
@@ -8,8 +9,7 @@ use native.Mathlib.Omega.{arith}
 use borrow.Author.Tests.{le-leb, lt-leb}
 use lib.Dec.{lit≤}
 use lib.ListN.{length, drop, length-append}
-use Rattle.answer.specs.declared.Answer.{Answer}
-use Rattle.answer.specs.declared.Answer.TheVariants.{Done, Refused}
+use Rattle.answer.specs.Answer.{Answer, refused_at}
 use Rattle.answer.specs.declared.Refusal.{Refusal}
 use Rattle.answer.specs.declared.Refusal.TheVariants.{Size, State, Length}
 use Rattle.answer.specs.Refuse.{unless, outcome}
@@ -29,13 +29,13 @@ use Rattle.digest.proofs.Opened.{open_done, formed_opened, finished_is}
 module _ (k : Kind) (pos : 0 < k.block) where
   -- ---- any pieces are the concatenated piece, whatever a finishing is, if only it refuses a state that is not in form
   module _ (finish : Hash → Written) (out : List ℕ)
-      (unformed : (h : Hash) → formed k h ≡ false → finish h ≡ record { answer = Refused State 0; out = out }) where
+      (unformed : (h : Hash) → formed k h ≡ false → finish h ≡ record { answer = refused_at State 0; out = out }) where
     abbrev one : Hash → List ℕ → Written
     one h s = fed_and k finish h (s ∷ []) out
 
     -- a feeding that is refused ends it, whatever would follow
-    stops : (h : Hash) (s : List ℕ) (ss : List (List ℕ)) {r : Refusal} → feed_answer k h s ≡ Refused r 0
-        → fed_and k finish h (s ∷ ss) out ≡ record { answer = Refused r 0; out = out }
+    stops : (h : Hash) (s : List ℕ) (ss : List (List ℕ)) {r : Refusal} → feed_answer k h s ≡ refused_at r 0
+        → fed_and k finish h (s ∷ ss) out ≡ record { answer = refused_at r 0; out = out }
     stops h s ss e = ap (λ (b : Answer). outcome b (fed_and k finish (feed_state k h s) ss out) (record { answer = b; out = out })) e
 
     goes : (h : Hash) (s : List ℕ) (ss : List (List ℕ)) → formed k h ≡ true → h.total + length s ≤ limit
@@ -46,11 +46,11 @@ module _ (k : Kind) (pos : 0 < k.block) where
         ∙ ap (λ (x : Hash). fed_and k finish x ss out) (left_done k pos h s d)
 
     refused_state : (h : Hash) (s : List ℕ) (ss : List (List ℕ)) → formed k h ≡ false
-        → fed_and k finish h (s ∷ ss) out ≡ record { answer = Refused State 0; out = out }
+        → fed_and k finish h (s ∷ ss) out ≡ record { answer = refused_at State 0; out = out }
     refused_state h s ss f = stops h s ss (feed_state_lem k pos h s f)
 
     refused_length : (h : Hash) (s : List ℕ) (ss : List (List ℕ)) → formed k h ≡ true → limit < h.total + length s
-        → fed_and k finish h (s ∷ ss) out ≡ record { answer = Refused Length 0; out = out }
+        → fed_and k finish h (s ∷ ss) out ≡ record { answer = refused_at Length 0; out = out }
     refused_length h s ss f l = stops h s ss (feed_length k pos h s f l)
 
     joined_twice : (h : Hash) (s t : List ℕ) → Held k h → formed k h ≡ true → h.total + length s ≤ limit → one (advanced k h s) t ≡ one h (s ++ t)
@@ -93,20 +93,20 @@ module _ (k : Kind) (pos : 0 < k.block) where
 
     -- opening, feeding and finishing is w, if w is what each of the three ways gives
     pub opened_joined : (n : ℕ) (ss : List (List ℕ)) (w : Written)
-        → (known_size k n ≡ false → record { answer = Refused Size 0; out = out } ≡ w)
-        → (known_size k n ≡ true → limit < length (concatenated ss) → record { answer = Refused Length 0; out = out } ≡ w)
+        → (known_size k n ≡ false → record { answer = refused_at Size 0; out = out } ≡ w)
+        → (known_size k n ≡ true → limit < length (concatenated ss) → record { answer = refused_at Length 0; out = out } ≡ w)
         → (known_size k n ≡ true → length (concatenated ss) ≤ limit → finish (advanced k (opened k n) (concatenated ss)) ≡ w)
         → opened_and k finish n ss out ≡ w
     opened_joined n ss w none long fed = decide (known_size k n) (λ kn. opened_yes kn (dec_le (length (concatenated ss)) limit)) opened_no
       where
         opened_no : known_size k n ≡ false → opened_and k finish n ss out ≡ w
         opened_no e =
-            let a : open_answer k n ≡ Refused Size 0 = rw e in
+            let a : open_answer k n ≡ refused_at Size 0 = rw e in
             ap (λ (b : Answer). outcome b (fed_and k finish (open_state k n) ss out) (record { answer = b; out = out })) a ∙ none e
 
         opened_is : known_size k n ≡ true → opened_and k finish n ss out ≡ one (opened k n) (concatenated ss)
         opened_is kn =
-            let a : open_answer k n ≡ Done 0 = rw kn in
+            let a : open_answer k n ≡ Ok 0 = rw kn in
             ap (λ (b : Answer). outcome b (fed_and k finish (open_state k n) ss out) (record { answer = b; out = out })) a
             ∙ ap (λ (x : Hash). fed_and k finish x ss out) (open_done k pos n kn) ∙ all_joined ss (opened k n) (held_opened k pos n) (clean_opened k pos n)
 
@@ -121,12 +121,12 @@ module _ (k : Kind) (pos : 0 < k.block) where
   abbrev called : ℕ → List ℕ → List ℕ → Written
   called n m out = record { answer = digest_answer k n m out; out = digest_out k n m out }
 
-  refused_call : (n : ℕ) (m out : List ℕ) {r : Refusal} → digest_answer k n m out ≡ Refused r 0 → record { answer = Refused r 0; out = out } ≡ called n m out
+  refused_call : (n : ℕ) (m out : List ℕ) {r : Refusal} → digest_answer k n m out ≡ refused_at r 0 → record { answer = refused_at r 0; out = out } ≡ called n m out
   refused_call n m out e = ap (λ (b : Answer). record { answer = b; out = outcome b (digest_of k n m ++ drop (n / 8) out) out }) (sym e)
 
-  finishes_unformed : (out : List ℕ) (h : Hash) → formed k h ≡ false → finishes k out h ≡ record { answer = Refused State 0; out = out }
+  finishes_unformed : (out : List ℕ) (h : Hash) → formed k h ≡ false → finishes k out h ≡ record { answer = refused_at State 0; out = out }
   finishes_unformed out h f =
-      let a : finish_answer k h out ≡ Refused State 0 = rw f in
+      let a : finish_answer k h out ≡ refused_at State 0 = rw f in
       ap (λ (b : Answer). record { answer = b; out = outcome b (finished k h ++ drop (h.size / 8) out) out }) a
 
   one_call : (n : ℕ) → known_size k n ≡ true → (m : List ℕ) → length m ≤ limit → (out : List ℕ)
@@ -156,7 +156,7 @@ module _ (k : Kind) (pos : 0 < k.block) where
         ap (λ (x : Hash). feed_all k x ss) e,
       )
 
-  passed : (h : Hash) (s : List ℕ) (ss : List (List ℕ)) {r : Refusal} → feed_answer k h s ≡ Refused r 0
+  passed : (h : Hash) (s : List ℕ) (ss : List (List ℕ)) {r : Refusal} → feed_answer k h s ≡ refused_at r 0
       → (accepted k h (s ∷ ss) ≡ accepted k h ss) × (feed_all k h (s ∷ ss) ≡ feed_all k h ss)
   passed h s ss e = (
     ap (λ (b : Answer). outcome b (s ++ accepted k (feed_state k h s) ss) (accepted k h ss)) e,
@@ -200,7 +200,7 @@ module _ (k : Kind) (pos : 0 < k.block) where
   fits n ss =
       let z : (open_state k n).total ≡ 0 =
       decide (known_size k n) (λ e. ap (λ (h : Hash). h.total) (open_done k pos n e))
-      (λ e. ap (λ (b : Bool). (outcome (unless b Size (Done 0)) (opened k n) (zeros k)).total) e) in
+      (λ e. ap (λ (b : Bool). (outcome (unless b Size (Ok 0)) (opened k n) (zeros k)).total) e) in
       let i = accepted_fits ss (open_state k n) (rw z (lit≤ tt)) in
       omega arith
 

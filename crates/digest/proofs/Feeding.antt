@@ -1,4 +1,5 @@
 -- Feeding: two feedings are one of the joined bytes, and what is refused leaves the state. For every kind, and every state that code can hold.
+use Rattle.std.specs.Prelude.{Ok}
 use mathlib.Core.Path.{◌≡◌, refl, ap, sym, ◌∙◌}
 use mathlib.Core.Bool.{true, false}
 use mathlib.Core.List.{List, [], ◌++◌, append-nil, append_assoc}
@@ -9,8 +10,7 @@ use borrow.Author.Tests.{le-leb, lt-leb, leb-true}
 use lib.Dec.{leb}
 use lib.ListN.{length, replicate, length-append, length-replicate, take-append-drop}
 use lib.Seq.{take_at, drop_at}
-use Rattle.answer.specs.declared.Answer.{Answer}
-use Rattle.answer.specs.declared.Answer.TheVariants.{Done, Refused}
+use Rattle.answer.specs.Answer.{Answer, refused_at}
 use Rattle.answer.specs.declared.Refusal.TheVariants.{State, Length}
 use Rattle.answer.proofs.Tests.{both_true}
 use Rattle.digest.specs.Blocks.{compressed, rest, filled}
@@ -96,17 +96,17 @@ module _ (k : Kind) (pos : 0 < k.block) where
 
   -- ---- what a feeding answers, by its tests
 
-  pub feed_done : (h : Hash) (s : List ℕ) → formed k h ≡ true → h.total + length s ≤ limit → feed_answer k h s ≡ Done (h.total + length s)
+  pub feed_done : (h : Hash) (s : List ℕ) → formed k h ≡ true → h.total + length s ≤ limit → feed_answer k h s ≡ Ok (h.total + length s)
   feed_done h s e l = rw (e, le-leb _ _ l)
 
-  pub feed_state_lem : (h : Hash) (s : List ℕ) → formed k h ≡ false → feed_answer k h s ≡ Refused State 0
+  pub feed_state_lem : (h : Hash) (s : List ℕ) → formed k h ≡ false → feed_answer k h s ≡ refused_at State 0
   feed_state_lem h s e = rw e
 
-  pub feed_length : (h : Hash) (s : List ℕ) → formed k h ≡ true → limit < h.total + length s → feed_answer k h s ≡ Refused Length 0
+  pub feed_length : (h : Hash) (s : List ℕ) → formed k h ≡ true → limit < h.total + length s → feed_answer k h s ≡ refused_at Length 0
   feed_length h s e l = rw (e, lt-leb _ _ l)
 
   -- what it leaves
-  pub left_done : (h : Hash) (s : List ℕ) {n : ℕ} → feed_answer k h s ≡ Done n → feed_state k h s ≡ advanced k h s
+  pub left_done : (h : Hash) (s : List ℕ) {n : ℕ} → feed_answer k h s ≡ Ok n → feed_state k h s ≡ advanced k h s
   left_done h s e = ap (λ (a : Answer). outcome a (advanced k h s) h) e
 
   pub formed_total : (h : Hash) → formed k h ≡ true → h.total ≤ limit

@@ -1,4 +1,5 @@
 -- A digest has at most 64 bytes, a total is at most 2^61 - 1, and refusals of a hash have the offset 0.
+use Rattle.std.specs.Prelude.{Ok}
 use mathlib.Core.Bool.{Bool, true, false, cond}
 use mathlib.Core.List.{List}
 use Prim.Native.Nat.{ℕ, ◌+◌, ◌/◌, ◌^◌, ◌≤◌}
@@ -7,7 +8,6 @@ use borrow.Author.Tests.{leb-true}
 use lib.Dec.{leb, lit≤}
 use lib.ListN.{length}
 use mathlib.Core.Path.{◌≡◌}
-use Rattle.answer.specs.declared.Answer.TheVariants.{Done}
 use Rattle.answer.specs.declared.Refusal.TheVariants.{Size, State, Length, Output, BitCount}
 use Rattle.answer.specs.Injective.{Fits}
 use Rattle.answer.proofs.Injective.{fits_unless}
@@ -22,7 +22,7 @@ use Rattle.answer.proofs.Tests.{both_true}
 module _ (k : Kind) (p : k.small ≤ 512) (q : k.large ≤ 512) where
   delivering_fits : (n : ℕ) (out : List ℕ) → is_size k.small k.large n ≡ true → Fits (2 ^ 32) (delivering n (length out))
   delivering_fits n out e =
-      fits_unless (2 ^ 32) (leb (n / 8) (length out)) Output (Done (n / 8)) λ _.
+      fits_unless (2 ^ 32) (leb (n / 8) (length out)) Output (Ok (n / 8)) λ _.
       omega (arith, size_bound k.small k.large n 512 p q e)
 
   digest_fits : (n : ℕ) (m out : List ℕ) → Fits (2 ^ 32) (digest_answer k n m out)
@@ -34,7 +34,7 @@ module _ (k : Kind) (p : k.small ≤ 512) (q : k.large ≤ 512) where
   pieces_fit : PiecesFit k
   pieces_fit =
       record {
-        opening = λ n. fits_unless (2 ^ 32) (is_size k.small k.large n) Size (Done 0) (λ _. lit≤ tt);
+        opening = λ n. fits_unless (2 ^ 32) (is_size k.small k.large n) Size (Ok 0) (λ _. lit≤ tt);
         feeding = λ h s. fits_unless (2 ^ 63) (formed k h) State _ (λ _.
             fits_unless (2 ^ 63) (leb (h.total + length s) limit) Length _ (λ e.
             let l : h.total + length s ≤ limit = leb-true (h.total + length s) limit e in omega arith));

@@ -1,12 +1,12 @@
 -- The one call goes by the kind of its size.
+use Rattle.std.specs.Prelude.{Ok}
 use mathlib.Core.Path.{◌≡◌, refl, ap, sym, subst, ◌∙◌}
 use mathlib.Core.Bool.{Bool, true, false, ◌||◌, cond}
 use mathlib.Core.List.{List, ◌++◌}
 use Prim.Native.Nat.{ℕ, ◌/◌, ◌≤◌}
 use borrow.Author.Tests.{le-leb}
 use lib.ListN.{length, drop}
-use Rattle.answer.specs.declared.Answer.{Answer}
-use Rattle.answer.specs.declared.Answer.TheVariants.{Done}
+use Rattle.answer.specs.Answer.{Answer}
 use Rattle.answer.specs.Refuse.{outcome}
 use Rattle.digest.specs.Refusals.{limit}
 use Rattle.digest.specs.Kind.{known_size, narrow_kind, wide_kind, kind_for, Known}
@@ -26,9 +26,9 @@ known_by_kind n b e f = ap (λ (x : Bool). known_size (cond x wide_kind narrow_k
 
 -- where nothing is refused
 pub one_call_writes : (n : ℕ) (m out : List ℕ) → Known n → length m ≤ limit → n / 8 ≤ length out
-    → (one_call_answer n m out ≡ Done (n / 8)) × (one_call_out n m out ≡ digest_for n m ++ drop (n / 8) out)
+    → (one_call_answer n m out ≡ Ok (n / 8)) × (one_call_out n m out ≡ digest_for n m ++ drop (n / 8) out)
 one_call_writes n m out e h g =
-    let a : one_call_answer n m out ≡ Done (n / 8) = rw (e, le-leb (length m) limit h, le-leb (n / 8) (length out) g) refl in
+    let a : one_call_answer n m out ≡ Ok (n / 8) = rw (e, le-leb (length m) limit h, le-leb (n / 8) (length out) g) refl in
     (a, ap (λ (r : Answer). outcome r (digest_for n m ++ drop (n / 8) out) out) a)
 
 pub four_sizes : FourSizes

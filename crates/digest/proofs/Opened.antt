@@ -1,11 +1,11 @@
 -- A hash that was opened and fed one message: its state, and what closes it.
+use Rattle.std.specs.Prelude.{Ok}
 use mathlib.Core.Path.{◌≡◌, ap, ◌∙◌}
 use mathlib.Core.Bool.{Bool, true}
 use mathlib.Core.List.{List, ◌++◌}
 use Prim.Native.Nat.{ℕ, ◌+◌, ◌*◌, ◌<◌}
 use native.Mathlib.Nat.{zero-add, zero-mod}
 use lib.ListN.{length}
-use Rattle.answer.specs.declared.Answer.TheVariants.{Done}
 use Rattle.answer.specs.declared.Refusal.TheVariants.{Size}
 use Rattle.answer.specs.Refuse.{unless, outcome}
 use Rattle.digest.specs.Padding.{ending}
@@ -18,7 +18,7 @@ use Rattle.digest.proofs.Feeding.{held_opened, pending_advanced}
 
 module _ (k : Kind) (pos : 0 < k.block) (n : ℕ) where
   pub open_done : known_size k n ≡ true → open_state k n ≡ opened k n
-  open_done kn = ap (λ (b : Bool). outcome (unless b Size (Done 0)) (opened k n) (zeros k)) kn
+  open_done kn = ap (λ (b : Bool). outcome (unless b Size (Ok 0)) (opened k n) (zeros k)) kn
 
   pub formed_opened : known_size k n ≡ true → formed k (opened k n) ≡ true
   formed_opened kn = rw kn

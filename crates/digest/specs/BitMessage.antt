@@ -1,6 +1,6 @@
 -- A message that ends inside a byte, as a caller has it (document 02, Paper 7): bytes to feed, and the highest bits of a last byte.
 use Rattle.std.specs.Prelude.{Bool, List, ◌++◌, ℕ, ◌/◌, length, drop}
-use Rattle.answer.specs.declared.Answer.{Answer}
+use Rattle.answer.specs.Answer.{Answer}
 use Rattle.answer.specs.Refuse.{outcome}
 use Rattle.digest.specs.Bits.{bit_string, highest}
 use Rattle.digest.specs.Refusals.{digesting_bits}

@@ -1,7 +1,6 @@
 -- Agreement over bit strings (document 02, Paper 7): what feeding and finishing write is the digest of a bit string, and each bit string of at most
 -- 2^64 - 1 bits is reached. The statement; proofs/BitStrings.antt shows it.
-use Rattle.std.specs.Prelude.{◌≡◌, Bool, true, false, List, ◌++◌, ℕ, ◌-◌, ◌/◌, ◌%◌, ◌^◌, ◌≤◌, ◌<◌, length, drop, replicate}
-use Rattle.answer.specs.declared.Answer.TheVariants.{Done}
+use Rattle.std.specs.Prelude.{◌≡◌, Bool, true, false, List, ◌++◌, ℕ, ◌-◌, ◌/◌, ◌%◌, ◌^◌, ◌≤◌, ◌<◌, length, drop, replicate, Ok}
 use Rattle.memory.specs.Bytes.{Bytes}
 use Rattle.digest.specs.Bits.{value_of, bit_string, packed, remainder, highest}
 use Rattle.digest.specs.Kind.{Kind, known_size, kind_for}
@@ -43,7 +42,7 @@ pub record BitStrings (k : Kind) : Type 0 where
   -- `last_byte s` is such a byte (`Parts`)
   pub every : (n : ℕ) (s : List Bool) (ss : List (List ℕ)) (last : ℕ) (out : List ℕ) → known_size k n ≡ true → length s ≤ 2 ^ 64 - 1
       → concatenated ss ≡ packed s → highest (length s % 8) last ≡ remainder s → n / 8 ≤ length out
-      → in_pieces_bits k n ss last (length s % 8) out ≡ record { answer = Done (n / 8); out = bit_digest_of k n s ++ drop (n / 8) out }
+      → in_pieces_bits k n ss last (length s % 8) out ≡ record { answer = Ok (n / 8); out = bit_digest_of k n s ++ drop (n / 8) out }
 
 -- of the four sizes, each in its kind: the digest of the one call is that of the bits of its message
 abbrev pub OneCallBits : Type 0

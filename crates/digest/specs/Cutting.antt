@@ -1,6 +1,6 @@
 -- A message cut into pieces: however it is cut, the hash in progress answers and writes what the one call does. The statement; proofs/Cutting.antt shows it.
 use Rattle.std.specs.Prelude.{◌≡◌, true, List, [], ◌∷◌, ◌++◌, ℕ, ◌≤◌, length}
-use Rattle.answer.specs.declared.Answer.{Answer}
+use Rattle.answer.specs.Answer.{Answer}
 use Rattle.answer.specs.Refuse.{outcome}
 use Rattle.digest.specs.Refusals.{limit}
 use Rattle.digest.specs.Kind.{Kind, known_size, kind_for}

@@ -1,6 +1,6 @@
 -- The digest of a whole message (001, Table 2.6), and the call that makes it, for the four sizes.
 use Rattle.std.specs.Prelude.{◌≡◌, ◌||◌, List, ◌++◌, ℕ, ◌/◌, length, drop}
-use Rattle.answer.specs.declared.Answer.{Answer}
+use Rattle.answer.specs.Answer.{Answer}
 use Rattle.digest.specs.Padding.{padded}
 use Rattle.digest.specs.Blocks.{compressed, last_bytes}
 use Rattle.answer.specs.Refuse.{outcome}

@@ -1,7 +1,6 @@
 -- Document 01, "What each operation refuses", and document 02, Paper 7, for the operations of a hash: by numbers alone, each refusal in its order.
-use Rattle.std.specs.Prelude.{Bool, ◌||◌, ◌&&◌, ℕ, ◌+◌, ◌-◌, ◌/◌, ◌^◌, eqb, leb}
-use Rattle.answer.specs.declared.Answer.{Answer}
-use Rattle.answer.specs.declared.Answer.TheVariants.{Done}
+use Rattle.std.specs.Prelude.{Bool, ◌||◌, ◌&&◌, ℕ, ◌+◌, ◌-◌, ◌/◌, ◌^◌, eqb, leb, Ok}
+use Rattle.answer.specs.Answer.{Answer}
 use Rattle.answer.specs.Refuse.{unless}
 use Rattle.answer.specs.declared.Refusal.TheVariants.{Size, State, Length, Output, BitCount}
 
@@ -19,15 +18,15 @@ in_form small large n total = is_size small large n && leb total limit
 
 -- opening with size n; a success has the number 0, the total of the starting state
 abbrev pub opening : ℕ → ℕ → ℕ → Answer
-opening small large n = unless (is_size small large n) Size (Done 0)
+opening small large n = unless (is_size small large n) Size (Ok 0)
 
 -- feeding len bytes; a success has the new total
 abbrev pub feeding : ℕ → ℕ → ℕ → ℕ → ℕ → Answer
-feeding small large n total len = unless (in_form small large n total) State (unless (leb (total + len) limit) Length (Done (total + len)))
+feeding small large n total len = unless (in_form small large n total) State (unless (leb (total + len) limit) Length (Ok (total + len)))
 
 -- a digest of size n goes into an output of room bytes; a success has its length
 abbrev pub delivering : ℕ → ℕ → Answer
-delivering n room = unless (leb (n / 8) room) Output (Done (n / 8))
+delivering n room = unless (leb (n / 8) room) Output (Ok (n / 8))
 
 -- finishing into an output of room bytes
 abbrev pub finishing : ℕ → ℕ → ℕ → ℕ → ℕ → Answer

@@ -1,7 +1,7 @@
 -- A hash in progress (document 01, "The digest", and for a message that ends inside a byte document 02, Paper 7): opening, feeding and finishing, what each
 -- answers and leaves, for any kind and any state.
 use Rattle.std.specs.Prelude.{Bool, List, [], ◌∷◌, ◌++◌, ℕ, ◌+◌, ◌*◌, ◌/◌, ◌%◌, length, take, drop, replicate}
-use Rattle.answer.specs.declared.Answer.{Answer}
+use Rattle.answer.specs.Answer.{Answer}
 use Rattle.digest.specs.Padding.{ending, marked}
 use Rattle.digest.specs.Blocks.{compressed, rest, filled, last_bytes}
 use Rattle.digest.specs.Pipe.{Pipe}

@@ -1,12 +1,12 @@
 -- A report by what the call answered, which was lent zeros.
+use Rattle.std.specs.Prelude.{Ok}
 use mathlib.Core.Path.{◌≡◌, ap, sym, ◌∙◌}
 use mathlib.Core.Bool.{true}
 use mathlib.Core.List.{List, [], ◌∷◌, ◌++◌}
 use Prim.Native.Nat.{ℕ, ◌≤◌}
 use native.Mathlib.Omega.{arith}
 use lib.ListN.{length, take, replicate, length-replicate}
-use Rattle.answer.specs.declared.Answer.{Answer}
-use Rattle.answer.specs.declared.Answer.TheVariants.{Done, Refused}
+use Rattle.answer.specs.Answer.{Answer, refused_at}
 use Rattle.answer.specs.declared.Refusal.{Refusal}
 use Rattle.answer.specs.Refuse.{is_done}
 use Rattle.hamming.specs.Counts.{pair_count, flipped_counts, flipped_answer, counts_after}
@@ -25,11 +25,11 @@ module _ (s : List ℕ) where
   answered : {a : Answer} → a ≡ flipped_answer s (length zeros) → told (flipped_counts s) a ≡ report s
   answered e = ap (told (flipped_counts s)) (e ∙ ap (flipped_answer s) places)
 
-  pub reported_refusal : (r : Refusal) (i : ℕ) → Refused r i ≡ flipped_answer s (length zeros) → refused r ++ (10 ∷ []) ≡ report s
+  pub reported_refusal : (r : Refusal) (i : ℕ) → refused_at r i ≡ flipped_answer s (length zeros) → refused r ++ (10 ∷ []) ≡ report s
   reported_refusal r i e = answered e
 
   -- a success, with the sum m, left `last`
-  module _ (m : ℕ) (last : List ℕ) (e : Done m ≡ flipped_answer s (length zeros)) (f : last ≡ counts_after s zeros) where
+  module _ (m : ℕ) (last : List ℕ) (e : Ok m ≡ flipped_answer s (length zeros)) (f : last ≡ counts_after s zeros) where
     abbrev n : ℕ
     n = pair_count (length s)
 

@@ -1,4 +1,5 @@
 -- What a success writes and answers.
+use Rattle.std.specs.Prelude.{Ok}
 use mathlib.Core.Path.{◌≡◌, ap, sym, ◌∙◌}
 use mathlib.Core.Bool.{true}
 use mathlib.Core.List.{List, ◌++◌}
@@ -9,8 +10,7 @@ use borrow.Author.Tests.{leb-true}
 use lib.Dec.{leb}
 use lib.ListN.{length, get_or, take, drop, length-append, length-drop, get_or-append}
 use lib.Seq.{take_at, drop_at}
-use Rattle.answer.specs.declared.Answer.{Answer}
-use Rattle.answer.specs.declared.Answer.TheVariants.{Done}
+use Rattle.answer.specs.Answer.{Answer}
 use Rattle.answer.specs.declared.Refusal.TheVariants.{Pairs, Output}
 use Rattle.answer.specs.Refuse.{is_done, outcome}
 use Rattle.answer.proofs.Refuse.{unless_done}
@@ -36,7 +36,7 @@ module _ (s l : List ℕ) (d : is_done (flipped_answer s (length l)) ≡ true) w
   pub room : n ≤ length l
   room = leb-true n (length l) tests.1
 
-  pub done : flipped_answer s (length l) ≡ Done (total (flipped_counts s))
+  pub done : flipped_answer s (length l) ≡ Ok (total (flipped_counts s))
   done = accepted s (length l) tests.0 tests.1
 
   after : counts_after s l ≡ flipped_counts s ++ drop n l
@@ -61,6 +61,6 @@ success_counts s l d = record {
   behind =
       ap (drop (pair_count (length s))) (after s l d)
       ∙ drop_at (flipped_counts s) (drop (pair_count (length s)) l) (pair_count (length s)) (counts_length s 0 (pair_count (length s)));
-  sum = done s l d ∙ ap (λ (t : List ℕ). Done (total t)) (sym (written s l d));
+  sum = done s l d ∙ ap (λ (t : List ℕ). Ok (total t)) (sym (written s l d));
   sum_most = omega (arith, total_le s 0 (pair_count (length s)), few s l d);
 }

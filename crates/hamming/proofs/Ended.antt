@@ -1,4 +1,5 @@
 -- What the code of the call leaves once its tests have come out.
+use Rattle.std.specs.Prelude.{Ok}
 use mathlib.Core.Path.{◌≡◌, refl, ap, sym, ◌∙◌}
 use mathlib.Core.Bool.{Bool, true, false, not}
 use mathlib.Core.List.{List, ◌++◌}
@@ -6,8 +7,7 @@ use Prim.Native.Nat.{ℕ, ◌≤◌}
 use borrow.Author.Tests.{leb-true, not-true, not-false}
 use lib.Dec.{leb}
 use lib.ListN.{length, drop}
-use Rattle.answer.specs.declared.Answer.{Answer}
-use Rattle.answer.specs.declared.Answer.TheVariants.{Done, Refused}
+use Rattle.answer.specs.Answer.{Answer, refused_at}
 use Rattle.answer.specs.declared.Refusal.TheVariants.{Pairs, Output}
 use Rattle.answer.specs.Refuse.{outcome}
 use Rattle.answer.proofs.Tests.{goes_on, stops}
@@ -27,16 +27,16 @@ module _ (s l : List ℕ) where
   ended e f = (sym e, rw e f)
 
   module _ {t : Bool} (e : t ≡ whole_pairs (length s)) where
-    pub ends_not_whole : not t ≡ true → Ended (Refused Pairs 0) l
+    pub ends_not_whole : not t ≡ true → Ended (refused_at Pairs 0) l
     ends_not_whole h = ended (not_whole s (length l) (stops e h)) refl
 
     module _ (h : not t ≡ false) where
-      pub ends_short : not (leb n (length l)) ≡ true → Ended (Refused Output 0) l
+      pub ends_short : not (leb n (length l)) ≡ true → Ended (refused_at Output 0) l
       ends_short g = ended (no_room s (length l) (goes_on e h) (not-true (leb n (length l)) g)) refl
 
       module _ (g : not (leb n (length l)) ≡ false) where
         pub asked : (length s ≤ 65536) × (n ≤ length l)
         asked = ((whole (length s) (goes_on e h)).1, leb-true n (length l) (not-false (leb n (length l)) g))
 
-        pub ends_counted : {m : ℕ} {last : List ℕ} → m ≡ total (flipped_counts s) → last ≡ flipped_counts s ++ drop n l → Ended (Done m) last
-        ends_counted f k = ended (accepted s (length l) (goes_on e h) (not-false (leb n (length l)) g) ∙ ap Done (sym f)) k
+        pub ends_counted : {m : ℕ} {last : List ℕ} → m ≡ total (flipped_counts s) → last ≡ flipped_counts s ++ drop n l → Ended (Ok m) last
+        ends_counted f k = ended (accepted s (length l) (goes_on e h) (not-false (leb n (length l)) g) ∙ ap Ok (sym f)) k

@@ -1,4 +1,5 @@
 -- The two tests of the call, and its answer once they have come out.
+use Rattle.std.specs.Prelude.{Ok}
 use mathlib.Core.Path.{◌≡◌, refl}
 use mathlib.Core.Bool.{true, false, and-false}
 use mathlib.Core.List.{List}
@@ -6,7 +7,7 @@ use Prim.Native.Nat.{ℕ, ◌%◌, ◌≤◌, ◌<◌}
 use borrow.Author.Tests.{eqb-true, leb-true, eq-eqb, ne_eqb, le-leb, lt-leb}
 use lib.Dec.{eqb, leb}
 use lib.ListN.{length}
-use Rattle.answer.specs.declared.Answer.TheVariants.{Done, Refused}
+use Rattle.answer.specs.Answer.{refused_at}
 use Rattle.answer.specs.declared.Refusal.TheVariants.{Pairs, Output}
 use Rattle.answer.proofs.Tests.{both_true}
 use Rattle.memory.specs.Lists.{total}
@@ -27,11 +28,11 @@ pub is_long : (m : ℕ) → 65536 < m → whole_pairs m ≡ false
 is_long m h = rw (lt-leb m 65536 h) (and-false (eqb (m % 64) 0))
 
 module _ (s : List ℕ) (n : ℕ) where
-  pub not_whole : whole_pairs (length s) ≡ false → flipped_answer s n ≡ Refused Pairs 0
+  pub not_whole : whole_pairs (length s) ≡ false → flipped_answer s n ≡ refused_at Pairs 0
   not_whole e = rw e refl
 
-  pub no_room : whole_pairs (length s) ≡ true → leb (pair_count (length s)) n ≡ false → flipped_answer s n ≡ Refused Output 0
+  pub no_room : whole_pairs (length s) ≡ true → leb (pair_count (length s)) n ≡ false → flipped_answer s n ≡ refused_at Output 0
   no_room e h = rw (e, h) refl
 
-  pub accepted : whole_pairs (length s) ≡ true → leb (pair_count (length s)) n ≡ true → flipped_answer s n ≡ Done (total (flipped_counts s))
+  pub accepted : whole_pairs (length s) ≡ true → leb (pair_count (length s)) n ≡ true → flipped_answer s n ≡ Ok (total (flipped_counts s))
   accepted e h = rw (e, h) refl

@@ -1,7 +1,6 @@
 -- Document 02, Paper 14: records of two digests, the bits in which the two differ, and their sum. A record is here such a pair, and not that of Paper 10.
-use Rattle.std.specs.Prelude.{Bool, ◌&&◌, List, [], ◌∷◌, ◌++◌, ℕ, zero, suc, ◌+◌, ◌*◌, ◌/◌, ◌%◌, eqb, leb, length, drop}
-use Rattle.answer.specs.declared.Answer.{Answer}
-use Rattle.answer.specs.declared.Answer.TheVariants.{Done}
+use Rattle.std.specs.Prelude.{Bool, ◌&&◌, List, [], ◌∷◌, ◌++◌, ℕ, zero, suc, ◌+◌, ◌*◌, ◌/◌, ◌%◌, eqb, leb, length, drop, Ok}
+use Rattle.answer.specs.Answer.{Answer}
 use Rattle.answer.specs.declared.Refusal.TheVariants.{Pairs, Output}
 use Rattle.answer.specs.Refuse.{unless, outcome}
 use Rattle.memory.specs.Lists.{bytes_at, total}
@@ -41,7 +40,7 @@ abbrev pub flipped_answer : List ℕ → ℕ → Answer
 flipped_answer s n =
     unless (whole_pairs (length s)) Pairs
     (unless (leb (pair_count (length s)) n) Output
-    (Done (total (flipped_counts s))))
+    (Ok (total (flipped_counts s))))
 
 -- the list l after the call: a count for each record, and the counts behind as they were; or, after a refusal, all as it was
 abbrev pub counts_after : List ℕ → List ℕ → List ℕ

@@ -1,4 +1,5 @@
 -- What the code of the calls answers and leaves once its tests have come out.
+use Rattle.std.specs.Prelude.{Ok}
 use mathlib.Core.Path.{◌≡◌, ap, sym, ◌∙◌}
 use mathlib.Core.Bool.{Bool, true, false, not, cond}
 use mathlib.Core.List.{List, ◌++◌}
@@ -6,8 +7,7 @@ use Prim.Native.Nat.{ℕ, ◌-◌, ◌/◌, ◌≤◌, ◌<◌}
 use borrow.Author.Tests.{le-leb, ltb-true, ltb-false, lt-leb}
 use lib.Dec.{leb, ltb}
 use lib.ListN.{length, drop}
-use Rattle.answer.specs.declared.Answer.{Answer}
-use Rattle.answer.specs.declared.Answer.TheVariants.{Done, Refused}
+use Rattle.answer.specs.Answer.{Answer, refused_at}
 use Rattle.answer.specs.declared.Refusal.TheVariants.{Size, Length, Output}
 use Rattle.answer.specs.Refuse.{is_done}
 use Rattle.answer.proofs.Tests.{goes_on, stops}
@@ -33,11 +33,11 @@ module _ (n key text : ℕ) where
 
 -- ---- the answers, test by test: t, u and s are what the code found of the size, the lengths and the output
 module _ (n key text : ℕ) {t : Bool} (e : t ≡ known_size (kind_for n) n) where
-  pub ends_unknown : (next : Answer) → not t ≡ true → Refused Size 0 ≡ keying n key text next
+  pub ends_unknown : (next : Answer) → not t ≡ true → refused_at Size 0 ≡ keying n key text next
   ends_unknown next h = sym (unknown_size n key text next (stops e h))
 
   module _ {u : Bool} (d : u ≡ fitting n key text) (h : not t ≡ false) where
-    pub ends_long : (next : Answer) → not u ≡ true → Refused Length 0 ≡ keying n key text next
+    pub ends_long : (next : Answer) → not u ≡ true → refused_at Length 0 ≡ keying n key text next
     ends_long next g = sym (too_long n key text next (goes_on e h) (stops d g))
 
     module _ (g : not u ≡ false) where
@@ -45,14 +45,14 @@ module _ (n key text : ℕ) {t : Bool} (e : t ≡ known_size (kind_for n) n) whe
       ends_passed next = sym (passed n key text next (goes_on e h) (goes_on d g))
 
       module _ (room : ℕ) {s : Bool} (f : s ≡ ltb room (n / 8)) where
-        pub ends_short : s ≡ true → Refused Output 0 ≡ hmac_answer n key text room
+        pub ends_short : s ≡ true → refused_at Output 0 ≡ hmac_answer n key text room
         ends_short z =
-            let q : Refused Output 0 ≡ delivering n room = rw (lt-leb (n / 8) room (ltb-true _ _ (sym f ∙ z))) in
+            let q : refused_at Output 0 ≡ delivering n room = rw (lt-leb (n / 8) room (ltb-true _ _ (sym f ∙ z))) in
             q ∙ ends_passed (delivering n room)
 
-        pub ends_room : s ≡ false → Done (n / 8) ≡ hmac_answer n key text room
+        pub ends_room : s ≡ false → Ok (n / 8) ≡ hmac_answer n key text room
         ends_room z =
-            let q : Done (n / 8) ≡ delivering n room = rw (le-leb (n / 8) room (ltb-false _ _ (sym f ∙ z))) in
+            let q : Ok (n / 8) ≡ delivering n room = rw (le-leb (n / 8) room (ltb-false _ _ (sym f ∙ z))) in
             q ∙ ends_passed (delivering n room)
 
 -- ---- making a tag, by the answer r

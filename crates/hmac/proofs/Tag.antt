@@ -1,4 +1,5 @@
 -- The code's way to a tag, by two digests of two parts each, and to the answer of a comparison.
+use Rattle.std.specs.Prelude.{Ok}
 use mathlib.Core.Path.{◌≡◌, ap, ap₂, sym, ◌∙◌}
 use mathlib.Core.Bool.{Bool, true, false, not, cond}
 use mathlib.Core.List.{List, [], ◌∷◌, ◌++◌}
@@ -6,8 +7,7 @@ use Prim.Native.Nat.{ℕ, ◌+◌, ◌/◌, ◌≤◌}
 use native.Mathlib.Omega.{arith}
 use lib.ListN.{length, take, drop, replicate, length-append, length-replicate}
 use lib.Seq.{take_at}
-use Rattle.answer.specs.declared.Answer.{Answer}
-use Rattle.answer.specs.declared.Answer.TheVariants.{Done}
+use Rattle.answer.specs.Answer.{Answer}
 use Rattle.answer.specs.Refuse.{is_done}
 use Rattle.answer.proofs.Tests.{decide, goes_on, stops}
 use Rattle.digest.specs.Refusals.{limit}
@@ -74,34 +74,34 @@ module _ (n : ℕ) (k : Known n) where
           ∙ (one_call_writes n (s ++ inner) out k l h).1
 
 -- a refusal of both calls does not depend on what would be answered
-refused_alike : (n key text : ℕ) (other : Answer) → is_done (keying n key text (Done 0)) ≡ false → keying n key text (Done 0) ≡ keying n key text other
+refused_alike : (n key text : ℕ) (other : Answer) → is_done (keying n key text (Ok 0)) ≡ false → keying n key text (Ok 0) ≡ keying n key text other
 refused_alike n key text other d = decide (known_size (kind_for n) n) known unknown
   where
-    unknown : known_size (kind_for n) n ≡ false → keying n key text (Done 0) ≡ keying n key text other
-    unknown e = unknown_size n key text (Done 0) e ∙ sym (unknown_size n key text other e)
+    unknown : known_size (kind_for n) n ≡ false → keying n key text (Ok 0) ≡ keying n key text other
+    unknown e = unknown_size n key text (Ok 0) e ∙ sym (unknown_size n key text other e)
 
-    known : Known n → keying n key text (Done 0) ≡ keying n key text other
+    known : Known n → keying n key text (Ok 0) ≡ keying n key text other
     known k =
         decide (fitting n key text)
-        (λ e. let z : true ≡ false = sym (ap is_done (passed n key text (Done 0) k e)) ∙ d in cc)
-        (λ e. too_long n key text (Done 0) k e ∙ sym (too_long n key text other k e))
+        (λ e. let z : true ≡ false = sym (ap is_done (passed n key text (Ok 0) k e)) ∙ d in cc)
+        (λ e. too_long n key text (Ok 0) k e ∙ sym (too_long n key text other k e))
 
 -- the answer r of the tests, and b what was found of the tag
-module _ (n : ℕ) (key text tag : List ℕ) {r : Answer} (e : r ≡ keying n (length key) (length text) (Done 0)) {t : Bool} (d : t ≡ is_done r) where
+module _ (n : ℕ) (key text tag : List ℕ) {r : Answer} (e : r ≡ keying n (length key) (length text) (Ok 0)) {t : Bool} (d : t ≡ is_done r) where
   pub not_tested : not t ≡ true → r ≡ verify_answer n key text tag
   not_tested h = e ∙ refused_alike n (length key) (length text) _ (ap is_done (sym e) ∙ stops d h)
 
   module _ (h : not t ≡ false) where
     pub tested : Known n × Fitting n (length key) (length text)
     tested =
-        let a = keying_done n (length key) (length text) (Done 0) (ap is_done (sym e) ∙ goes_on d h) in
+        let a = keying_done n (length key) (length text) (Ok 0) (ap is_done (sym e) ∙ goes_on d h) in
         (a.0, a.1)
 
     pub verified : {x : List ℕ} {b : Bool} → x ≡ hmac_for n key text ++ drop (n / 8) (replicate 64 0) → b ≡ same tag (take (n / 8) x) → (v : Bool) → b ≡ v
-        → Done (cond v 1 0) ≡ verify_answer n key text tag
+        → Ok (cond v 1 0) ≡ verify_answer n key text tag
     verified {x} ex eb v ev =
         let k = tested.0 in
         let p : take (n / 8) x ≡ hmac_for n key text =
         ap (take (n / 8)) ex ∙ take_at (hmac_for n key text) (drop (n / 8) (replicate 64 0)) (n / 8) (tag_length n k key text) in
-        ap (λ (y : Bool). Done (cond y 1 0)) (sym ev ∙ eb ∙ ap (same tag) p)
+        ap (λ (y : Bool). Ok (cond y 1 0)) (sym ev ∙ eb ∙ ap (same tag) p)
         ∙ sym (passed n (length key) (length text) _ k (is_fitting n (length key) (length text) tested.1))

@@ -1,11 +1,11 @@
 -- The tests of the two calls, and what is answered once they have come out.
+use Rattle.std.specs.Prelude.{Ok}
 use mathlib.Core.Path.{◌≡◌, refl}
 use mathlib.Core.Bool.{true, false, ◌&&◌}
 use Prim.Native.Nat.{ℕ, ◌-◌, ◌/◌, ◌≤◌, ◌<◌}
 use borrow.Author.Tests.{leb-true, le-leb, lt-leb}
 use lib.Dec.{leb}
-use Rattle.answer.specs.declared.Answer.{Answer}
-use Rattle.answer.specs.declared.Answer.TheVariants.{Done, Refused}
+use Rattle.answer.specs.Answer.{Answer, refused_at}
 use Rattle.answer.specs.declared.Refusal.TheVariants.{Size, Length, Output}
 use Rattle.answer.specs.Refuse.{is_done}
 use Rattle.answer.proofs.Tests.{both_true}
@@ -36,10 +36,10 @@ module _ (n key text : ℕ) where
       neither false e = refl
 
   module _ (next : Answer) where
-    pub unknown_size : known_size (kind_for n) n ≡ false → keying n key text next ≡ Refused Size 0
+    pub unknown_size : known_size (kind_for n) n ≡ false → keying n key text next ≡ refused_at Size 0
     unknown_size e = rw e
 
-    pub too_long : Known n → fitting n key text ≡ false → keying n key text next ≡ Refused Length 0
+    pub too_long : Known n → fitting n key text ≡ false → keying n key text next ≡ refused_at Length 0
     too_long k e = rw (k, e)
 
     pub passed : Known n → fitting n key text ≡ true → keying n key text next ≡ next
@@ -65,5 +65,5 @@ pub record Accepted (n key text room : ℕ) : Type 0 where
 pub accepted : (n key text room : ℕ) → is_done (hmac_answer n key text room) ≡ true → Accepted n key text room
 accepted n key text room d =
     let a = keying_done n key text (delivering n room) d in
-    let b = unless_done (leb (n / 8) room) Output (Done (n / 8)) a.2 in
+    let b = unless_done (leb (n / 8) room) Output (Ok (n / 8)) a.2 in
     record { known = a.0; fits = a.1; out = leb-true _ _ b.0 }

@@ -1,4 +1,5 @@
 -- Yes, exactly when the tag is the true one.
+use Rattle.std.specs.Prelude.{Ok}
 use mathlib.Core.Path.{◌≡◌, ap, sym, ◌∙◌}
 use mathlib.Core.Bool.{Bool, true, false, cond}
 use mathlib.Core.List.{List, ◌++◌}
@@ -6,8 +7,7 @@ use Prim.Native.Nat.{ℕ, ◌/◌, ◌^◌, ◌≤◌}
 use native.Mathlib.Omega.{arith}
 use lib.ListN.{length, take, drop}
 use lib.Seq.{take-append_seam}
-use Rattle.answer.specs.declared.Answer.{Answer}
-use Rattle.answer.specs.declared.Answer.TheVariants.{Done}
+use Rattle.answer.specs.Answer.{Answer}
 use Rattle.answer.specs.declared.Refusal.TheVariants.{Size, Length}
 use Rattle.answer.specs.Number.{number_of}
 use Rattle.answer.specs.Refuse.{is_done}
@@ -24,13 +24,13 @@ use Rattle.hmac.proofs.Tests.{is_fitting, fitting_is, passed, accepted}
 
 module _ (n : ℕ) (key text tag : List ℕ) where
   abbrev found : Answer
-  found = Done (cond (same tag (hmac_for n key text)) 1 0)
+  found = Ok (cond (same tag (hmac_for n key text)) 1 0)
 
-  answered : Known n → Fitting n (length key) (length text) → (b : Bool) → same tag (hmac_for n key text) ≡ b → verify_answer n key text tag ≡ Done (cond b 1 0)
+  answered : Known n → Fitting n (length key) (length text) → (b : Bool) → same tag (hmac_for n key text) ≡ b → verify_answer n key text tag ≡ Ok (cond b 1 0)
   answered k f b e =
-      passed n (length key) (length text) found k (is_fitting n (length key) (length text) f) ∙ ap (λ (x : Bool). Done (cond x 1 0)) e
+      passed n (length key) (length text) found k (is_fitting n (length key) (length text) f) ∙ ap (λ (x : Bool). Ok (cond x 1 0)) e
 
-  yes : TrueTag n key text tag → verify_answer n key text tag ≡ Done 1
+  yes : TrueTag n key text tag → verify_answer n key text tag ≡ Ok 1
   yes t = answered t.known t.fitting true (equal_same _ _ t.bytes)
 
   only : number_of (verify_answer n key text tag) ≡ 1 → TrueTag n key text tag
@@ -42,7 +42,7 @@ module _ (n : ℕ) (key text tag : List ℕ) where
       record { known = k; fitting = fitting_is _ _ _ f; size = ap length b ∙ tag_length n k key text; bytes = b })
       (λ s. let z : ◌≡◌ {A = ℕ} 0 1 = ap (λ (x : Bool). cond x 1 0) (sym s) ∙ e in absurd (omega arith))
 
-  no : Known n → Fitting n (length key) (length text) → (tag ≡ hmac_for n key text → ⊥) → verify_answer n key text tag ≡ Done 0
+  no : Known n → Fitting n (length key) (length text) → (tag ≡ hmac_for n key text → ⊥) → verify_answer n key text tag ≡ Ok 0
   no k f d = answered k f false (unequal_same _ _ d)
 
   refused : is_done (verify_answer n key text tag) ≡ false → 2 ^ 32 ≤ number_of (verify_answer n key text tag)
@@ -62,7 +62,7 @@ module _ (n : ℕ) (key text tag : List ℕ) where
       }
 
 made : (n : ℕ) (key text out : List ℕ) → is_done (hmac_answer n (length key) (length text) (length out)) ≡ true
-    → verify_answer n key text (take (n / 8) (hmac_out n key text out)) ≡ Done 1
+    → verify_answer n key text (take (n / 8) (hmac_out n key text out)) ≡ Ok 1
 made n key text out d =
     let a = accepted n (length key) (length text) (length out) d in
     let t = hmac_for n key text in

@@ -1,7 +1,6 @@
 -- Document 02, Paper 6: the call that makes a tag and the call that compares one, what they answer and leave. The paper's word for a tag is "mark".
-use Rattle.std.specs.Prelude.{Bool, true, false, ◌&&◌, cond, List, [], ◌∷◌, ◌++◌, ℕ, ◌-◌, ◌/◌, eqb, leb, length, drop}
-use Rattle.answer.specs.declared.Answer.{Answer}
-use Rattle.answer.specs.declared.Answer.TheVariants.{Done}
+use Rattle.std.specs.Prelude.{Bool, true, false, ◌&&◌, cond, List, [], ◌∷◌, ◌++◌, ℕ, ◌-◌, ◌/◌, eqb, leb, length, drop, Ok}
+use Rattle.answer.specs.Answer.{Answer}
 use Rattle.answer.specs.declared.Refusal.TheVariants.{Size, Length}
 use Rattle.answer.specs.Refuse.{unless, outcome}
 use Rattle.digest.specs.Refusals.{limit, delivering}
@@ -33,4 +32,4 @@ same (a ∷ s) (b ∷ t) = eqb a b && same s t
 
 -- comparing a given tag: 1, which is yes, if it is the true one, and else 0. `YesExactly` says when
 abbrev pub verify_answer : ℕ → List ℕ → List ℕ → List ℕ → Answer
-verify_answer n key text tag = keying n (length key) (length text) (Done (cond (same tag (hmac_for n key text)) 1 0))
+verify_answer n key text tag = keying n (length key) (length text) (Ok (cond (same tag (hmac_for n key text)) 1 0))

@@ -1,7 +1,6 @@
 -- Document 02, Paper 6, in its words: what the two calls refuse. The statement; proofs/Refusals.antt shows it.
-use Rattle.std.specs.Prelude.{◌≡◌, true, false, List, ℕ, ◌-◌, ◌/◌, ◌≤◌, ◌<◌, length}
-use Rattle.answer.specs.declared.Answer.{Answer}
-use Rattle.answer.specs.declared.Answer.TheVariants.{Done, Refused}
+use Rattle.std.specs.Prelude.{◌≡◌, true, false, List, ℕ, ◌-◌, ◌/◌, ◌≤◌, ◌<◌, length, Ok}
+use Rattle.answer.specs.Answer.{Answer, refused_at}
 use Rattle.answer.specs.declared.Refusal.TheVariants.{Size, Length, Output}
 use Rattle.answer.specs.Refuse.{is_done}
 use Rattle.digest.specs.Refusals.{limit}
@@ -16,17 +15,17 @@ pub record Fitting (n key text : ℕ) : Type 0 where
 
 -- a is refused with 1 if the size is none of the four; else with 3 if the key is over 2^61 - 1 bytes, and if the message is over that less one block
 pub record BothRefuse (n key text : ℕ) (a : Answer) : Type 0 where
-  pub size : known_size (kind_for n) n ≡ false → a ≡ Refused Size 0
-  pub long_key : Known n → limit < key → a ≡ Refused Length 0
-  pub long_message : Known n → limit - block_for n < text → a ≡ Refused Length 0
+  pub size : known_size (kind_for n) n ≡ false → a ≡ refused_at Size 0
+  pub long_key : Known n → limit < key → a ≡ refused_at Length 0
+  pub long_message : Known n → limit - block_for n < text → a ≡ refused_at Length 0
 
 -- making refuses so, then with 4 if the output is shorter than n/8, and else not; a refusal leaves the output as it was
 pub record MakingRefuses (n : ℕ) (key text out : List ℕ) : Type 0 where
   pub both : BothRefuse n (length key) (length text) (hmac_answer n (length key) (length text) (length out))
   pub short : Known n → Fitting n (length key) (length text) → length out < n / 8
-      → hmac_answer n (length key) (length text) (length out) ≡ Refused Output 0
+      → hmac_answer n (length key) (length text) (length out) ≡ refused_at Output 0
   pub others : Known n → Fitting n (length key) (length text) → n / 8 ≤ length out
-      → hmac_answer n (length key) (length text) (length out) ≡ Done (n / 8)
+      → hmac_answer n (length key) (length text) (length out) ≡ Ok (n / 8)
   pub unchanged : is_done (hmac_answer n (length key) (length text) (length out)) ≡ false → hmac_out n key text out ≡ out
 
 -- comparing refuses so, and else not

@@ -1,4 +1,5 @@
 -- What a run does and counts, by its sheet's commands.
+use Rattle.std.specs.Prelude.{Ok, Err, Some, None}
 use mathlib.Core.Path.{◌≡◌, refl, sym, ap, ap₂, ◌∙◌}
 use mathlib.Core.List.{List, [], ◌∷◌, ◌++◌, map, map-append, reverse, sum, sum-append}
 use Prim.Native.Nat.{ℕ, ◌+◌}
@@ -7,10 +8,8 @@ use native.Mathlib.Omega.{arith}
 use Rattle.invertible.specs.Invertible.{stepped}
 use Rattle.invertible.specs.RoundTrip.{Direction, Forward, Backward}
 use Rattle.sheet.specs.declared.Command.{Command}
-use Rattle.sheet.specs.declared.Read.{Read}
-use Rattle.sheet.specs.declared.Read.TheVariants.{Got, Fault, End}
+use Rattle.sheet.specs.Read.{Read, place_count, read_at}
 use Rattle.sheet.specs.Units.{units}
-use Rattle.sheet.specs.Read.{place_count, read_at}
 use Rattle.sheet.specs.Sheet.{plan_of}
 use Rattle.sheet.specs.Effect.{effect}
 use Rattle.sheet.specs.Work.{units_in, total_units}
@@ -33,9 +32,9 @@ module _ (w : ℕ) (s : List ℕ) where
   doing g c v = effect w s (turned g c) v
 
   step_command : (g : Direction) (r : Read) (l : List Command) (v : List (List ℕ)) → stepped (doing g) (command_in r ++ l) v ≡ stepped (doing g) l (step_with g w s r v)
-  step_command g (Got d) l v = refl
-  step_command g (Fault r) l v = refl
-  step_command g End l v = refl
+  step_command g (Ok (Some d)) l v = refl
+  step_command g (Err r) l v = refl
+  step_command g (Ok None) l v = refl
 
   steps_commands : (g : Direction) (l : List ℕ) (v : List (List ℕ)) → steps g w s l v ≡ stepped (doing g) (commands_at w s l) v
   steps_commands g [] v = ap (λ (m : List Command). stepped (doing g) m v) (sym at_none)
@@ -45,9 +44,9 @@ module _ (w : ℕ) (s : List ℕ) where
       ∙ ap (λ (m : List Command). stepped (doing g) m v) (sym (at_more i l))
 
   one_way : (r : Read) → reverse (command_in r) ≡ command_in r
-  one_way (Got d) = refl
-  one_way (Fault r) = refl
-  one_way End = refl
+  one_way (Ok (Some d)) = refl
+  one_way (Err r) = refl
+  one_way (Ok None) = refl
 
   pub run_forward : (v : List (List ℕ)) → run_vectors Forward w s v ≡ stepped (doing Forward) (commands_of w s) v
   run_forward v = steps_commands Forward (plan_of w s).offsets v
@@ -69,9 +68,9 @@ module _ (w : ℕ) (s : List ℕ) where
 
   counted_read : (i : ℕ) (r : Read) → read_at w s i ≡ r → units_in r ≡ counted (command_in r)
   unfolding sum
-  counted_read i (Got d) e = omega (arith, (reading_tells w s i d e).of_command)
-  counted_read i (Fault r) e = refl
-  counted_read i End e = refl
+  counted_read i (Ok (Some d)) e = omega (arith, (reading_tells w s i d e).of_command)
+  counted_read i (Err r) e = refl
+  counted_read i (Ok None) e = refl
 
   units_commands : (l : List ℕ) → total_units w s l ≡ counted (commands_at w s l)
   units_commands [] = units_none place_count w s ∙ counted_none ∙ ap counted (sym at_none)

@@ -1,4 +1,5 @@
 -- What is read at an offset, in bytes, is what stands there.
+use Rattle.std.specs.Prelude.{Ok, Err, Some, None}
 use mathlib.Core.Path.{◌≡◌, refl, sym, ap, ap₂, subst, ◌∙◌}
 use mathlib.Core.Bool.{false, ◌||◌}
 use mathlib.Core.List.{List, [], ◌∷◌, ◌++◌}
@@ -12,9 +13,7 @@ use Rattle.answer.proofs.Tests.{split, neither}
 use Rattle.invertible.specs.Invertible.{Each, none, more}
 use Rattle.sheet.specs.declared.Places.{Places}
 use Rattle.sheet.specs.declared.Command.{Command}
-use Rattle.sheet.specs.declared.Read.{Read}
-use Rattle.sheet.specs.declared.Read.TheVariants.{Got, Fault, End}
-use Rattle.sheet.specs.Read.{place_count, size_of, two_place_command, one_place_command, two_places, one_place, read_among, read_at}
+use Rattle.sheet.specs.Read.{Read, place_count, size_of, two_place_command, one_place_command, two_places, one_place, read_among, read_at}
 use Rattle.sheet.specs.Sheet.{Sound, Plan, scan_from, plan_of}
 use Rattle.sheet.specs.Enough.{PlanFrom, at_command, at_fault, at_end}
 use Rattle.sheet.specs.Sound.{SoundCommand, SoundRead}
@@ -60,9 +59,9 @@ module _ (w : ℕ) (s : List ℕ) where
 
   module _ (i : ℕ) where
     abbrev Stands : Read → Type 0
-    Stands (Got d) = encoded w s d.command ++ drop d.next s ≡ drop i s
-    Stands (Fault r) = Unit {0}
-    Stands End = Unit {0}
+    Stands (Ok (Some d)) = encoded w s d.command ++ drop d.next s ≡ drop i s
+    Stands (Err r) = Unit {0}
+    Stands (Ok None) = Unit {0}
 
     -- the first bytes from there on
     from_two : i + 2 ≤ length s → get_or s i 0 ∷ get_or s (i + 1) 0 ∷ drop (i + 2) s ≡ drop i s

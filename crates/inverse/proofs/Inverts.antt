@@ -1,4 +1,5 @@
 -- The inverse of an accepted sheet.
+use Rattle.std.specs.Prelude.{Ok}
 use mathlib.Core.Path.{◌≡◌, refl, sym, ap, ap₂, ◌∙◌}
 use mathlib.Core.Bool.{Bool, true}
 use mathlib.Core.List.{List, [], ◌∷◌, map, map-map, reverse, reverse-reverse, sum, sum-reverse, flat_map, Forall₂}
@@ -9,8 +10,7 @@ use borrow.Author.Tests.{eq-eqb}
 use lib.Dec.{leb}
 use lib.ListN.{length, take, drop}
 use lib.Seq.{take_at, drop_at}
-use Rattle.answer.specs.declared.Answer.{Answer}
-use Rattle.answer.specs.declared.Answer.TheVariants.{Done}
+use Rattle.answer.specs.Answer.{Answer}
 use Rattle.answer.specs.declared.Refusal.TheVariants.{Output}
 use Rattle.answer.specs.Refuse.{unless, is_done, outcome}
 use Rattle.answer.proofs.Refuse.{done_outcome, unless_done}
@@ -191,7 +191,7 @@ sheets_invert w s h =
 pub refuses_as_runs : RefusesAsRuns
 refuses_as_runs w s b out size =
     let fit = eq-eqb (length b) (place_count * w) size in
-    let done = Done (total_units w s (plan_of w s).offsets) in
+    let done = Ok (total_units w s (plan_of w s).offsets) in
     let next = room_answer (length s) (length out) in
     record {
       refused = λ r i e. let f = rw fit at e in sym (refused_alike place_count w true s done next refl (ap is_done f)) ∙ f;
@@ -206,8 +206,8 @@ success_writes w s out d =
     let next = room_answer m (length out) in
     let p = done_passed place_count w true s next d in
     let room = sym (passes place_count w true s next p) in
-    let fits = (unless_done (leb m (length out)) Output (Done m) (sym (ap is_done room) ∙ d)).0 in
-    let answered = room ∙ ap (λ (t : Bool). unless t Output (Done m)) fits in
+    let fits = (unless_done (leb m (length out)) Output (Ok m) (sym (ap is_done room) ∙ d)).0 in
+    let answered = room ∙ ap (λ (t : Bool). unless t Output (Ok m)) fits in
     let left = sym (done_outcome (inverse_answer w s out) (inverse_written w s out) out d) in
     let inv = inverse_sheet w s in
     record {

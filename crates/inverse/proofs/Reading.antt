@@ -15,9 +15,8 @@ use Rattle.quasigroup.specs.Division.{left_division}
 use Rattle.sheet.specs.declared.Places.{Places}
 use Rattle.sheet.specs.declared.Command.{Command}
 use Rattle.sheet.specs.declared.Command.TheVariants.{Lmul, Rmul, Ldiv, Rdiv, Swap, Flip, Kmul, Kdiv}
-use Rattle.sheet.specs.declared.Read.{Read}
+use Rattle.sheet.specs.Read.{Read, place_count, size_of, got, two_place_command, one_place_command, two_places, one_place, read_among, read_at}
 use Rattle.sheet.specs.Units.{units}
-use Rattle.sheet.specs.Read.{place_count, size_of, got, two_place_command, one_place_command, two_places, one_place, read_among, read_at}
 use Rattle.sheet.specs.Sheet.{Sound}
 use Rattle.sheet.specs.Enough.{PlanFrom, at_command, at_end}
 use Rattle.sheet.specs.Effect.{at, vector_at, effect, undone}

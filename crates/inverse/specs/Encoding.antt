@@ -1,12 +1,10 @@
 -- Document 01, "The load sheet": the bytes of a command, and a sheet's commands in their order.
-use Rattle.std.specs.Prelude.{◌≡◌, ℕ, take, drop}
+use Rattle.std.specs.Prelude.{◌≡◌, ℕ, take, drop, Ok, Err, Some, None}
 use mathlib.Core.List.{List, [], ◌∷◌, ◌++◌, flat_map}
 use Rattle.sheet.specs.declared.Command.{Command}
 use Rattle.sheet.specs.declared.Command.TheVariants.{Lmul, Rmul, Ldiv, Rdiv, Swap, Flip, Kmul, Kdiv}
 use Rattle.sheet.specs.declared.Decoded.{Decoded}
-use Rattle.sheet.specs.declared.Read.{Read}
-use Rattle.sheet.specs.declared.Read.TheVariants.{Got, Fault, End}
-use Rattle.sheet.specs.Read.{read_at}
+use Rattle.sheet.specs.Read.{Read, read_at}
 use Rattle.sheet.specs.Sheet.{Sound, plan_of}
 
 -- the w bytes from offset k of the sheet s on: of the vector K, the immediate operand of a command
@@ -30,9 +28,9 @@ all_encoded w s l = flat_map (encoded w s) l
 
 -- the command that was read, if one was
 abbrev pub command_in : Read → List Command
-command_in (Got d) = d.command ∷ []
-command_in (Fault r) = []
-command_in End = []
+command_in (Ok (Some d)) = d.command ∷ []
+command_in (Err r) = []
+command_in (Ok None) = []
 
 -- the commands at the offsets
 abbrev pub commands_at : ℕ → List ℕ → List ℕ → List Command
@@ -49,7 +47,7 @@ Accepted w s = (plan_of w s).outcome ≡ Sound
 -- That these are the bytes which reading reads: at an offset where a command stands, the sheet goes on with that command's bytes and then with what stands
 -- behind it; and an accepted sheet is its commands' bytes. proofs/Encoding.antt shows both.
 abbrev pub ReadingDecodes : Type 0
-ReadingDecodes = (w : ℕ) (s : List ℕ) (i : ℕ) (d : Decoded) → read_at w s i ≡ Got d → encoded w s d.command ++ drop d.next s ≡ drop i s
+ReadingDecodes = (w : ℕ) (s : List ℕ) (i : ℕ) (d : Decoded) → read_at w s i ≡ Ok (Some d) → encoded w s d.command ++ drop d.next s ≡ drop i s
 
 abbrev pub SheetsEncoded : Type 0
 SheetsEncoded = (w : ℕ) (s : List ℕ) → Accepted w s → all_encoded w s (commands_of w s) ≡ s

@@ -1,7 +1,6 @@
 -- Document 02, Paper 1: the inverse sheet, which it calls the sheet that goes home, and the call that writes it.
-use Rattle.std.specs.Prelude.{true, List, ◌++◌, map, reverse, ℕ, leb, length, drop}
-use Rattle.answer.specs.declared.Answer.{Answer}
-use Rattle.answer.specs.declared.Answer.TheVariants.{Done}
+use Rattle.std.specs.Prelude.{true, List, ◌++◌, map, reverse, ℕ, leb, length, drop, Ok}
+use Rattle.answer.specs.Answer.{Answer}
 use Rattle.answer.specs.declared.Refusal.TheVariants.{Output}
 use Rattle.answer.specs.Refuse.{unless, outcome}
 use Rattle.sheet.specs.Effect.{undone}
@@ -18,7 +17,7 @@ inverse_written w s out = inverse_sheet w s ++ drop (length s) out
 
 -- 4, the output's n bytes are fewer than the sheet's m; or m
 abbrev pub room_answer : ℕ → ℕ → Answer
-room_answer m n = unless (leb m n) Output (Done m)
+room_answer m n = unless (leb m n) Output (Ok m)
 
 -- The call's answer: 5; 7 to 11 as for a run; 4; or the sheet's length
 abbrev pub inverse_answer : ℕ → List ℕ → List ℕ → Answer

@@ -1,6 +1,6 @@
 -- Document 02, Paper 1, in its words: what holds of the inverse of an accepted sheet. The statements; proofs/Inverts.antt shows them.
-use Rattle.std.specs.Prelude.{◌≡◌, true, List, ℕ, ◌*◌, length, take, drop}
-use Rattle.answer.specs.declared.Answer.TheVariants.{Done, Refused}
+use Rattle.std.specs.Prelude.{◌≡◌, true, List, ℕ, ◌*◌, length, take, drop, Ok}
+use Rattle.answer.specs.Answer.{refused_at}
 use Rattle.answer.specs.declared.Refusal.{Refusal}
 use Rattle.answer.specs.Refuse.{is_done}
 use Rattle.invertible.specs.RoundTrip.{Direction, other}
@@ -31,8 +31,8 @@ SheetsInvert = (w : ℕ) (s : List ℕ) → Accepted w s → Inverts w s
 
 -- The call refuses a sheet as a run does, over vectors b that have their length: with the same number and offset. 4 comes last, where the run is not refused
 pub record RefusesAlike (w : ℕ) (s b out : List ℕ) : Type 0 where
-  pub refused : (r : Refusal) (i : ℕ) → run_answer w s b ≡ Refused r i → inverse_answer w s out ≡ Refused r i
-  pub done : (n : ℕ) → run_answer w s b ≡ Done n → inverse_answer w s out ≡ room_answer (length s) (length out)
+  pub refused : (r : Refusal) (i : ℕ) → run_answer w s b ≡ refused_at r i → inverse_answer w s out ≡ refused_at r i
+  pub done : (n : ℕ) → run_answer w s b ≡ Ok n → inverse_answer w s out ≡ room_answer (length s) (length out)
 
 abbrev pub RefusesAsRuns : Type 0
 RefusesAsRuns = (w : ℕ) (s b out : List ℕ) → length b ≡ place_count * w → RefusesAlike w s b out
@@ -40,7 +40,7 @@ RefusesAsRuns = (w : ℕ) (s b out : List ℕ) → length b ≡ place_count * w 
 -- A success is of an accepted sheet: it answers the sheet's length, its inverse stands in the first bytes of the output, and each byte behind stays in its place
 pub record Written (w : ℕ) (s out : List ℕ) : Type 0 where
   pub accepted : Accepted w s
-  pub answer : inverse_answer w s out ≡ Done (length s)
+  pub answer : inverse_answer w s out ≡ Ok (length s)
   pub first : take (length s) (inverse_out w s out) ≡ inverse_sheet w s
   pub behind : drop (length s) (inverse_out w s out) ≡ drop (length s) out
 

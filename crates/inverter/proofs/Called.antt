@@ -1,4 +1,5 @@
 -- What the call knows and leaves once its tests have answered.
+use Rattle.std.specs.Prelude.{Ok}
 use mathlib.Core.Path.{◌≡◌, refl, sym, ap, ◌∙◌}
 use mathlib.Core.Bool.{Bool, true, false, not}
 use mathlib.Core.List.{List}
@@ -6,8 +7,7 @@ use Prim.Native.Nat.{ℕ, ◌≤◌}
 use borrow.Author.Tests.{leb-true}
 use lib.Dec.{leb}
 use lib.ListN.{length}
-use Rattle.answer.specs.declared.Answer.{Answer}
-use Rattle.answer.specs.declared.Answer.TheVariants.{Done}
+use Rattle.answer.specs.Answer.{Answer}
 use Rattle.answer.specs.declared.Refusal.TheVariants.{Output}
 use Rattle.answer.specs.Refuse.{is_done}
 use Rattle.answer.proofs.Tests.{goes_on, stops}
@@ -30,15 +30,15 @@ module _ (w : ℕ) (s out : List ℕ) where
   abbrev Ended : Answer → List ℕ → Type 0
   Ended r last = (r ≡ inverse_answer w s out) × (last ≡ inverse_out w s out)
 
-  module _ {found : Answer} (e : found ≡ sheet_answer w true s (Done (length s))) {done : Bool} (d : done ≡ is_done found) where
+  module _ {found : Answer} (e : found ≡ sheet_answer w true s (Ok (length s))) {done : Bool} (d : done ≡ is_done found) where
     pub sheet_refused : not done ≡ true → Ended found out
     sheet_refused n =
-        let same = refused_alike place_count w true s (Done (length s)) next refl (sym (ap is_done e) ∙ stops d n) in
+        let same = refused_alike place_count w true s (Ok (length s)) next refl (sym (ap is_done e) ∙ stops d n) in
         ends_refused new out (e ∙ same) d n
 
     module _ (n : not done ≡ false) where
       passed : Passed place_count w true s
-      passed = done_passed place_count w true s (Done (length s)) (sym (ap is_done e) ∙ goes_on d n)
+      passed = done_passed place_count w true s (Ok (length s)) (sym (ap is_done e) ∙ goes_on d n)
 
       pub accepted : Accepted w s
       accepted = passed.sheet
@@ -52,7 +52,7 @@ module _ (w : ℕ) (s out : List ℕ) where
 
         module _ (h : not fits ≡ false) where
           pub room_left : length s ≤ length out
-          room_left = leb-true (length s) (length out) (unless_done (leb (length s) (length out)) Output (Done (length s)) (sym (ap is_done f) ∙ goes_on g h)).0
+          room_left = leb-true (length s) (length out) (unless_done (leb (length s) (length out)) Output (Ok (length s)) (sym (ap is_done f) ∙ goes_on g h)).0
 
           pub written : {last : List ℕ} → last ≡ new → Ended room last
           written = ends_done new out answered g h

@@ -1,4 +1,5 @@
 -- The loop that writes an inverse sheet: what is still to be written, and where.
+use Rattle.std.specs.Prelude.{Ok, Err, Some, None}
 use mathlib.Core.Path.{◌≡◌, refl, sym, ap, ap₂, ◌∙◌}
 use mathlib.Core.List.{List, [], ◌∷◌, ◌++◌, append_assoc, map, reverse, reverse-cons}
 use Prim.Native.Nat.{ℕ, ◌+◌, ◌-◌, ◌≤◌}
@@ -9,9 +10,7 @@ use Rattle.answer.specs.declared.Refusal.{Refusal}
 use Rattle.memory.proofs.Lists.{front}
 use Rattle.sheet.specs.declared.Command.{Command}
 use Rattle.sheet.specs.declared.Decoded.{Decoded}
-use Rattle.sheet.specs.declared.Read.{Read}
-use Rattle.sheet.specs.declared.Read.TheVariants.{Got, Fault, End}
-use Rattle.sheet.specs.Read.{place_count, read_at}
+use Rattle.sheet.specs.Read.{Read, place_count, read_at}
 use Rattle.sheet.specs.Sheet.{Sound, Plan, scan_from}
 use Rattle.sheet.specs.Effect.{undone}
 use Rattle.sheet.proofs.Scan.{plan_scanned}
@@ -67,7 +66,7 @@ module _ (w : ℕ) (s : List ℕ) where
   pub started : (out : List ℕ) → Accepted w s → length s ≤ length out → Inverting out out 0
   started out h r = record { within = omega arith; sound = sound_start h; room = r; same = refl; stored = refl }
 
-  module _ (i : ℕ) (d : Decoded) (e : read_at w s i ≡ Got d) where
+  module _ (i : ℕ) (d : Decoded) (e : read_at w s i ≡ Ok (Some d)) where
     -- the bytes that undo the command at offset i
     abbrev here : List ℕ
     here = encoded w s (undone d.command)
@@ -114,7 +113,7 @@ module _ (w : ℕ) (s : List ℕ) where
         }
 
   module _ {out₀ out : List ℕ} {i : ℕ} (now : Inverting out₀ out i) (h : Accepted w s) where
-    pub ended : read_at w s i ≡ End → out ≡ inverse_written w s out₀
+    pub ended : read_at w s i ≡ Ok None → out ≡ inverse_written w s out₀
     ended e =
         let none : inverse_from i ≡ [] =
         ap (λ (l : List ℕ). all_encoded w s (reverse (map undone (commands_at w s l)))) (rest_end place_count w s i e)
@@ -128,7 +127,7 @@ module _ (w : ℕ) (s : List ℕ) where
         let same = now.same in
         (rw none at now.stored) ∙ front out₀ (inverse_from 0) (omega arith) ∙ ap₂ {C = List ℕ} (λ (t : List ℕ) (n : ℕ). t ++ drop n out₀) whole size
 
-    pub faulty : (r : Refusal) → read_at w s i ≡ Fault r → out ≡ inverse_written w s out₀
+    pub faulty : (r : Refusal) → read_at w s i ≡ Err r → out ≡ inverse_written w s out₀
     faulty r e =
         let o = sym (ap (λ (p : Plan). p.outcome) (rest_fault place_count w s i r e)) ∙ now.sound in
         let z : ◌≡◌ {A = ℕ} 0 1 = cc in

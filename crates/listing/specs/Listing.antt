@@ -1,12 +1,10 @@
 -- Document 01, "The lister": what it prints for a sheet, as ASCII bytes.
-use Rattle.std.specs.Prelude.{List, [], ◌∷◌, ◌++◌, ℕ, length}
+use Rattle.std.specs.Prelude.{List, [], ◌∷◌, ◌++◌, ℕ, length, Ok, Err, Some, None}
 use Rattle.answer.specs.declared.Refusal.{Refusal}
 use Rattle.sheet.specs.declared.Places.{Places}
 use Rattle.sheet.specs.declared.Command.{Command}
 use Rattle.sheet.specs.declared.Command.TheVariants.{Lmul, Rmul, Ldiv, Rdiv, Swap, Flip, Kmul, Kdiv}
-use Rattle.sheet.specs.declared.Read.{Read}
-use Rattle.sheet.specs.declared.Read.TheVariants.{Got, Fault, End}
-use Rattle.sheet.specs.Read.{read_at}
+use Rattle.sheet.specs.Read.{Read, read_at}
 use Rattle.sheet.specs.Sheet.{Outcome, Sound, Faulty, plan_of}
 use Rattle.text.specs.Decimal.{decimal, spaced}
 use Rattle.text.specs.Label.{labelled, refused}
@@ -41,9 +39,9 @@ abbrev pub line : ℕ → Command → List ℕ
 line i c = decimal i ++ ((32 ∷ name c) ++ (places c ++ (10 ∷ [])))
 
 abbrev pub line_of : ℕ → Read → List ℕ
-line_of i (Got d) = line i d.command
-line_of i (Fault r) = []
-line_of i End = []
+line_of i (Ok (Some d)) = line i d.command
+line_of i (Err r) = []
+line_of i (Ok None) = []
 
 -- the lines of the commands at the offsets
 abbrev pub lines : ℕ → List ℕ → List ℕ → List ℕ

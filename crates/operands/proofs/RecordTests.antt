@@ -1,10 +1,10 @@
 -- The answer to a call on records by the tests in their order.
+use Rattle.std.specs.Prelude.{Ok}
 use mathlib.Core.Path.{◌≡◌, sym, subst}
 use mathlib.Core.Bool.{true, false}
 use Prim.Native.Nat.{ℕ, ◌%◌, ◌^◌, ◌≤◌, ◌<◌}
 use borrow.Author.Tests.{eq-eqb, ne_eqb, lt-leb}
-use Rattle.answer.specs.declared.Answer.{Answer}
-use Rattle.answer.specs.declared.Answer.TheVariants.{Done, Refused}
+use Rattle.answer.specs.Answer.{Answer, refused_at}
 use Rattle.answer.specs.declared.Refusal.TheVariants.{Width, Records, Output}
 use Rattle.answer.specs.Injective.{Fits}
 use Rattle.quasigroup.specs.Tables.{known_width}
@@ -20,16 +20,16 @@ module _ (w m n : ℕ) (small : m < 2 ^ 63) where
   ended : (r : Answer) → r ≡ records_answer w m n → Ended r
   ended r e = (e, subst (Fits (2 ^ 63)) (sym e) (records_fit w m n small))
 
-  pub unknown_refused : known_width w ≡ false → Ended (Refused Width 0)
-  unknown_refused k = ended (Refused Width 0) (sym (rw k))
+  pub unknown_refused : known_width w ≡ false → Ended (refused_at Width 0)
+  unknown_refused k = ended (refused_at Width 0) (sym (rw k))
 
   module _ (k : known_width w ≡ true) where
-    pub broken_refused : (m % record_length w ≡ 0 → ⊥) → Ended (Refused Records 0)
-    broken_refused h = ended (Refused Records 0) (sym (rw (k, ne_eqb _ _ h)))
+    pub broken_refused : (m % record_length w ≡ 0 → ⊥) → Ended (refused_at Records 0)
+    broken_refused h = ended (refused_at Records 0) (sym (rw (k, ne_eqb _ _ h)))
 
     module _ (whole : m % record_length w ≡ 0) where
-      pub output_refused : n < m → Ended (Refused Output 0)
-      output_refused h = ended (Refused Output 0) (sym (rw (k, eq-eqb _ _ whole, lt-leb _ _ h)))
+      pub output_refused : n < m → Ended (refused_at Output 0)
+      output_refused h = ended (refused_at Output 0) (sym (rw (k, eq-eqb _ _ whole, lt-leb _ _ h)))
 
-      pub accepted : m ≤ n → Ended (Done m)
-      accepted h = ended (Done m) (sym (answered w m n k whole h))
+      pub accepted : m ≤ n → Ended (Ok m)
+      accepted h = ended (Ok m) (sym (answered w m n k whole h))

@@ -1,4 +1,5 @@
 -- The answer to a step by the tests in their order, and what a success knows of its arguments.
+use Rattle.std.specs.Prelude.{Ok}
 use mathlib.Core.Path.{◌≡◌, sym, ap, ◌∙◌}
 use mathlib.Core.Bool.{Bool, true, false, ◌&&◌}
 use mathlib.Core.List.{List}
@@ -6,8 +7,7 @@ use Prim.Native.Nat.{ℕ, ◌*◌}
 use borrow.Author.Tests.{eqb-true}
 use lib.Dec.{eqb}
 use lib.ListN.{length}
-use Rattle.answer.specs.declared.Answer.{Answer}
-use Rattle.answer.specs.declared.Answer.TheVariants.{Done, Refused}
+use Rattle.answer.specs.Answer.{Answer, refused_at}
 use Rattle.answer.specs.declared.Refusal.TheVariants.{Width, Operand}
 use Rattle.answer.specs.Refuse.{is_done}
 use Rattle.answer.proofs.Tests.{both_true}
@@ -22,13 +22,13 @@ module _ (w : ℕ) (m b : List ℕ) where
 
   -- ---- the answer, from the tests
 
-  pub unknown_refused : known_width w ≡ false → Refused Width 0 ≡ step_answer w m b
+  pub unknown_refused : known_width w ≡ false → refused_at Width 0 ≡ step_answer w m b
   unknown_refused k = sym (rw k)
 
-  pub operand_refused : known_width w ≡ true → fit ≡ false → Refused Operand 0 ≡ step_answer w m b
+  pub operand_refused : known_width w ≡ true → fit ≡ false → refused_at Operand 0 ≡ step_answer w m b
   operand_refused k h = sym (rw (k, h))
 
-  pub accepted : known_width w ≡ true → fit ≡ true → Done (2 * w) ≡ step_answer w m b
+  pub accepted : known_width w ≡ true → fit ≡ true → Ok (2 * w) ≡ step_answer w m b
   accepted k h = sym (rw (k, h))
 
   -- ---- what a success knows
@@ -41,6 +41,6 @@ module _ (w : ℕ) (m b : List ℕ) where
   pub success : (r : Answer) → r ≡ step_answer w m b → is_done r ≡ true → Accepted
   success r e d =
       let k = unless_done (known_width w) Width _ (ap is_done (sym e) ∙ d) in
-      let h = unless_done fit Operand (Done (2 * w)) k.1 in
+      let h = unless_done fit Operand (Ok (2 * w)) k.1 in
       let l = both_true (eqb (length b) (2 * w)) (eqb (length m) (2 * w)) h.0 in
       record { other = other_width w k.0; pipe = eqb-true (length b) (2 * w) l.0; block = eqb-true (length m) (2 * w) l.1 }

@@ -1,4 +1,5 @@
 -- The answer by the tests in their order, and what a success knows of its arguments.
+use Rattle.std.specs.Prelude.{Ok}
 use mathlib.Core.Path.{◌≡◌, sym, ap, ◌∙◌}
 use mathlib.Core.Bool.{true, false, ◌&&◌}
 use mathlib.Core.List.{List}
@@ -6,8 +7,7 @@ use Prim.Native.Nat.{ℕ, ◌≤◌, ◌<◌}
 use borrow.Author.Tests.{eqb-true, leb-true, le-leb, lt-leb}
 use lib.Dec.{eqb, leb}
 use lib.ListN.{length}
-use Rattle.answer.specs.declared.Answer.{Answer}
-use Rattle.answer.specs.declared.Answer.TheVariants.{Done, Refused}
+use Rattle.answer.specs.Answer.{Answer, refused_at}
 use Rattle.answer.specs.declared.Refusal.TheVariants.{Width, Operand, Output}
 use Rattle.answer.specs.Refuse.{is_done}
 use Rattle.answer.proofs.Tests.{both_true}
@@ -19,18 +19,18 @@ use Rattle.operands.specs.Operation.{answer_for}
 module _ (w : ℕ) (x y out : List ℕ) where
   -- ---- the answer, from the tests
 
-  pub unknown_refused : known_width w ≡ false → Refused Width 0 ≡ answer_for w x y out
+  pub unknown_refused : known_width w ≡ false → refused_at Width 0 ≡ answer_for w x y out
   unknown_refused k = sym (rw k)
 
   module _ (k : known_width w ≡ true) where
-    pub operand_refused : (eqb (length x) w && eqb (length y) w) ≡ false → Refused Operand 0 ≡ answer_for w x y out
+    pub operand_refused : (eqb (length x) w && eqb (length y) w) ≡ false → refused_at Operand 0 ≡ answer_for w x y out
     operand_refused h = sym (rw (k, h))
 
     module _ (fit : (eqb (length x) w && eqb (length y) w) ≡ true) where
-      pub output_refused : length out < w → Refused Output 0 ≡ answer_for w x y out
+      pub output_refused : length out < w → refused_at Output 0 ≡ answer_for w x y out
       output_refused h = sym (rw (k, fit, lt-leb _ _ h))
 
-      pub accepted : w ≤ length out → Done w ≡ answer_for w x y out
+      pub accepted : w ≤ length out → Ok w ≡ answer_for w x y out
       accepted h = sym (rw (k, fit, le-leb _ _ h))
 
   -- ---- what a success knows

@@ -1,7 +1,6 @@
 -- Document 01: the product and both divisions on bytes, for a width given as a number.
-use Rattle.std.specs.Prelude.{◌&&◌, List, ◌++◌, ℕ, ◌/◌, eqb, leb, length, drop}
-use Rattle.answer.specs.declared.Answer.{Answer}
-use Rattle.answer.specs.declared.Answer.TheVariants.{Done}
+use Rattle.std.specs.Prelude.{◌&&◌, List, ◌++◌, ℕ, ◌/◌, eqb, leb, length, drop, Ok}
+use Rattle.answer.specs.Answer.{Answer}
 use Rattle.answer.specs.declared.Refusal.TheVariants.{Width, Operand, Output}
 use Rattle.answer.specs.Refuse.{unless, outcome}
 use Rattle.memory.specs.Bytes.{words_at, bytes_of}
@@ -13,7 +12,7 @@ answer_for w x y out =
     unless (known_width w) Width
     (unless (eqb (length x) w && eqb (length y) w) Operand
     (unless (leb w (length out)) Output
-    (Done w)))
+    (Ok w)))
 
 -- an operation on vectors of eight words of w bits, on their bytes
 unfoldable pub on_bytes : (Parameters → List ℕ → List ℕ → List ℕ) → ℕ → List ℕ → List ℕ → List ℕ

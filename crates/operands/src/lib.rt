@@ -15,35 +15,23 @@ use answer::{Answer, Refusal};
 pub fn known_width(width: u32) -> bool
     ensures { result ≡ known_width width }
 {
-    if width == 32 {
-        return true;
-    }
-    width == 64
+    width == 32 || width == 64
 }
 
 // Whether both operands are exactly `n` bytes.
 fn operands_fit(n: usize, x: &[u8], y: &[u8]) -> bool
     ensures { result ≡ eqb (length x.now) n && eqb (length y.now) n }
 {
-    if x.len() != n {
-        return false;
-    }
-    y.len() == n
+    x.len() == n && y.len() == n
 }
 
 // The answer, by the refusals in their order. Nothing is written.
 pub fn answer_for(width: u32, x: &[u8], y: &[u8], out: &[u8]) -> Answer
     ensures { result ≡ answer_for width x.now y.now out.now }
 {
-    if !known_width(width) {
-        return Answer::Refused(Refusal::Width, 0);
-    }
+    answer::require(known_width(width), Refusal::Width)?;
     let w = width as usize;
-    if !operands_fit(w, x, y) {
-        return Answer::Refused(Refusal::Operand, 0);
-    }
-    if out.len() < w {
-        return Answer::Refused(Refusal::Output, 0);
-    }
-    Answer::Done(width as u64)
+    answer::require(operands_fit(w, x, y), Refusal::Operand)?;
+    answer::require(w <= out.len(), Refusal::Output)?;
+    Ok(width as u64)
 }

@@ -10,16 +10,9 @@ pub fn answer_for(width: u32, records: &[u8], out: &[u8]) -> Answer
     ensures value { result ≡ records_answer width (length records.now) (length out.now) }
     ensures fits { Fits (2 ^ 63) result }
 {
-    if !crate::known_width(width) {
-        return Answer::Refused(Refusal::Width, 0);
-    }
+    answer::require(crate::known_width(width), Refusal::Width)?;
     let n = 8 * (width as usize);
-    let rest = records.len() % n;
-    if rest != 0 {
-        return Answer::Refused(Refusal::Records, 0);
-    }
-    if out.len() < records.len() {
-        return Answer::Refused(Refusal::Output, 0);
-    }
-    Answer::Done(records.len() as u64)
+    answer::require(records.len() % n == 0, Refusal::Records)?;
+    answer::require(records.len() <= out.len(), Refusal::Output)?;
+    Ok(records.len() as u64)
 }

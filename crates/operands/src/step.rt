@@ -8,12 +8,8 @@ use answer::{Answer, Refusal};
 pub fn answer_for(width: u32, pipe: &[u8], block: &[u8]) -> Answer
     ensures { result ≡ step_answer width block.now pipe.now }
 {
-    if !crate::known_width(width) {
-        return Answer::Refused(Refusal::Width, 0);
-    }
+    answer::require(crate::known_width(width), Refusal::Width)?;
     let n = 2 * (width as usize);
-    if !crate::operands_fit(n, pipe, block) {
-        return Answer::Refused(Refusal::Operand, 0);
-    }
-    Answer::Done(n as u64)
+    answer::require(crate::operands_fit(n, pipe, block), Refusal::Operand)?;
+    Ok(n as u64)
 }

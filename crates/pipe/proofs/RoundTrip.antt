@@ -1,4 +1,5 @@
 -- The round trip of a list of calls over a lent pipe.
+use Rattle.std.specs.Prelude.{Ok}
 use mathlib.Core.Path.{◌≡◌, sym, ap, ◌∙◌}
 use mathlib.Core.Bool.{true, ◌&&◌}
 use mathlib.Core.List.{List}
@@ -6,8 +7,7 @@ use Prim.Native.Nat.{ℕ, ◌*◌}
 use borrow.Author.Tests.{eqb-true}
 use lib.Dec.{eqb}
 use lib.ListN.{length}
-use Rattle.answer.specs.declared.Answer.{Answer}
-use Rattle.answer.specs.declared.Answer.TheVariants.{Done, Refused}
+use Rattle.answer.specs.Answer.{Answer, refused_at}
 use Rattle.answer.specs.declared.Refusal.{Refusal}
 use Rattle.answer.specs.declared.Refusal.TheVariants.{Width, Operand}
 use Rattle.answer.specs.Refuse.{unless}
@@ -38,12 +38,12 @@ module _ (g : Direction) (w : ℕ) (m : List ℕ) (hm : Bytes m) (b : List ℕ) 
     size : length b ≡ 2 * w
 
   abbrev answer_by : ℕ → Answer
-  answer_by n = unless (known_width w) Width (unless (eqb n (2 * w) && eqb (length m) (2 * w)) Operand (Done (2 * w)))
+  answer_by n = unless (known_width w) Width (unless (eqb n (2 * w) && eqb (length m) (2 * w)) Operand (Ok (2 * w)))
 
-  step_cases : (P : Answer → Type 0) → ((r : Refusal) (i : ℕ) → P (Refused r i)) → (Passed → (n : ℕ) → P (Done n)) → P (step_answer w m b)
+  step_cases : (P : Answer → Type 0) → ((r : Refusal) (i : ℕ) → P (refused_at r i)) → (Passed → (n : ℕ) → P (Ok n)) → P (step_answer w m b)
   step_cases P refused pass =
       unless_cases P (known_width w) Width _ (λ _. refused Width 0) λ k.
-      unless_cases P (eqb (length b) (2 * w) && eqb (length m) (2 * w)) Operand (Done (2 * w)) (λ _. refused Operand 0) λ e.
+      unless_cases P (eqb (length b) (2 * w) && eqb (length m) (2 * w)) Operand (Ok (2 * w)) (λ _. refused Operand 0) λ e.
       let l = both_true (eqb (length b) (2 * w)) (eqb (length m) (2 * w)) e in
       pass (record { known = k; size = eqb-true (length b) (2 * w) l.0 }) (2 * w)
 

@@ -1,8 +1,7 @@
 -- Document 02, Paper 11, for C: a block forward or back on a pipe in lent bytes, for a width given as a number. No paper names these calls
 -- (docs/DECISIONS.md).
-use Rattle.std.specs.Prelude.{◌&&◌, List, ℕ, ◌*◌, eqb, length}
-use Rattle.answer.specs.declared.Answer.{Answer}
-use Rattle.answer.specs.declared.Answer.TheVariants.{Done}
+use Rattle.std.specs.Prelude.{◌&&◌, List, ℕ, ◌*◌, eqb, length, Ok}
+use Rattle.answer.specs.Answer.{Answer}
 use Rattle.answer.specs.declared.Refusal.TheVariants.{Width, Operand}
 use Rattle.answer.specs.Refuse.{unless, outcome}
 use Rattle.invertible.specs.RoundTrip.{Direction}
@@ -13,7 +12,7 @@ use Rattle.pipe.specs.Backward.{moved}
 
 -- the answer to a step by the block m on the pipe b: 5, the width is not 32 or 64; 6, the pipe or the block is not exactly 2 * w bytes; or 2 * w
 abbrev pub step_answer : ℕ → List ℕ → List ℕ → Answer
-step_answer w m b = unless (known_width w) Width (unless (eqb (length b) (2 * w) && eqb (length m) (2 * w)) Operand (Done (2 * w)))
+step_answer w m b = unless (known_width w) Width (unless (eqb (length b) (2 * w) && eqb (length m) (2 * w)) Operand (Ok (2 * w)))
 
 module _ (s : Parameters) where
   -- a pipe stands in bytes as a block does: words 0 to 7, then words 8 to 15; `written` writes it so

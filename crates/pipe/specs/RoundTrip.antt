@@ -1,7 +1,7 @@
 -- Document 02, Paper 11: demand 3 for blocks, in the words of the theorem about runs (sheet/specs/RoundTrip.antt): a list of calls over the same lent
 -- pipe, and the way home.
 use Rattle.std.specs.Prelude.{List, ℕ}
-use Rattle.answer.specs.declared.Answer.{Answer}
+use Rattle.answer.specs.Answer.{Answer}
 use Rattle.invertible.specs.Invertible.{Each}
 use Rattle.invertible.specs.RoundTrip.{Direction, other, RoundTrip}
 use Rattle.memory.specs.Bytes.{Bytes}

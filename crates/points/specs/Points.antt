@@ -1,7 +1,6 @@
 -- Document 01, "Reference points": the points with a star, and those of document 02, Paper 8, each shown of the definitions, together as one fact.
-use Rattle.std.specs.Prelude.{◌≡◌, refl, ℕ, ◌+◌, ◌*◌, ◌/◌, ◌^◌, length, replicate}
+use Rattle.std.specs.Prelude.{◌≡◌, refl, ℕ, ◌+◌, ◌*◌, ◌/◌, ◌^◌, length, replicate, Ok}
 use mathlib.Core.List.{List, [], ◌∷◌, ◌++◌, sum}
-use Rattle.answer.specs.declared.Answer.TheVariants.{Done}
 use Rattle.answer.specs.Number.{number_of}
 use Rattle.memory.specs.Bytes.{word_at, bytes_of}
 use Rattle.word.specs.Word.{rotl}
@@ -23,7 +22,7 @@ lent w v = bytes_of (w / 8) (v ++ replicate 56 0)
 -- of sheets, at width w. A refusal is said by document 01's number: 2^32 times the refusal number plus the offset.
 pub record SheetPoints (w : ℕ) : Type 0 where
   -- the empty sheet: success, 0
-  pub empty : run_answer w [] (lent w one_to_eight) ≡ Done 0
+  pub empty : run_answer w [] (lent w one_to_eight) ≡ Ok 0
   -- 06 00 on V0 = 1, 2, .., 8 gives 8, 7, .., 1
   pub flip : run_bytes Forward w (6 ∷ 0 ∷ []) (lent w one_to_eight) ≡ lent w (8 ∷ 7 ∷ 6 ∷ 5 ∷ 4 ∷ 3 ∷ 2 ∷ 1 ∷ [])
   -- 05 01 01 is 11 at 0
@@ -31,7 +30,7 @@ pub record SheetPoints (w : ℕ) : Type 0 where
   -- 01 04 04 is 11 at 0
   pub same_place_4 : number_of (run_answer w (1 ∷ 4 ∷ 4 ∷ []) (lent w one_to_eight)) ≡ 11 * 2 ^ 32 + 0
   -- 06 04 is accepted
-  pub place_4 : run_answer w (6 ∷ 4 ∷ []) (lent w one_to_eight) ≡ Done 0
+  pub place_4 : run_answer w (6 ∷ 4 ∷ []) (lent w one_to_eight) ≡ Ok 0
   -- 06 08 is 10 at 0
   pub place_8 : number_of (run_answer w (6 ∷ 8 ∷ []) (lent w one_to_eight)) ≡ 10 * 2 ^ 32 + 0
   -- 01 08 08 is 10 at 0

@@ -1,28 +1,28 @@
 -- The tests of a slice in their order: the sheet's, and then the start's.
+use Rattle.std.specs.Prelude.{Ok, Err}
 use mathlib.Core.Path.{◌≡◌, refl, sym, ap, ◌∙◌}
 use mathlib.Core.Bool.{Bool, true, false, true≢false, false≢true}
-use Rattle.answer.specs.declared.Answer.{Answer}
-use Rattle.answer.specs.declared.Answer.TheVariants.{Done, Refused}
+use Rattle.answer.specs.Answer.{Answer, refused_at}
 use Rattle.answer.specs.declared.Refusal.TheVariants.{Start}
 use Rattle.answer.specs.Refuse.{unless, is_done}
 use Rattle.sheet.specs.Start.{then_start}
 
 refused_first : (a : Answer) (t : Bool) → is_done a ≡ false → a ≡ then_start t a
-refused_first (Done n) t e = absurd (true≢false e)
-refused_first (Refused r at) t e = refl
+refused_first (Ok n) t e = absurd (true≢false e)
+refused_first (Err err) t e = refl
 
-refused_then : (a : Answer) (t : Bool) → is_done a ≡ true → is_done (unless t Start (Done 0)) ≡ false → unless t Start (Done 0) ≡ then_start t a
-refused_then (Done n) true e h = absurd (true≢false h)
-refused_then (Done n) false e h = refl
-refused_then (Refused r at) t e h = absurd (false≢true e)
+refused_then : (a : Answer) (t : Bool) → is_done a ≡ true → is_done (unless t Start (Ok 0)) ≡ false → unless t Start (Ok 0) ≡ then_start t a
+refused_then (Ok n) true e h = absurd (true≢false h)
+refused_then (Ok n) false e h = refl
+refused_then (Err err) t e h = absurd (false≢true e)
 
-passes : (a : Answer) (t : Bool) → is_done a ≡ true → is_done (unless t Start (Done 0)) ≡ true → a ≡ then_start t a
-passes (Done n) true e h = refl
-passes (Done n) false e h = absurd (false≢true h)
-passes (Refused r at) t e h = absurd (false≢true e)
+passes : (a : Answer) (t : Bool) → is_done a ≡ true → is_done (unless t Start (Ok 0)) ≡ true → a ≡ then_start t a
+passes (Ok n) true e h = refl
+passes (Ok n) false e h = absurd (false≢true h)
+passes (Err err) t e h = absurd (false≢true e)
 
 -- code found the sheet's answer `whole` and the offset's answer `offset`
-module _ {whole found offset : Answer} (e : whole ≡ found) (t : Bool) (f : offset ≡ unless t Start (Done 0)) where
+module _ {whole found offset : Answer} (e : whole ≡ found) (t : Bool) (f : offset ≡ unless t Start (Ok 0)) where
   pub sheet_refused : is_done whole ≡ false → whole ≡ then_start t found
   sheet_refused h = refused_first whole t h ∙ ap (then_start t) e
 

@@ -1,4 +1,5 @@
 -- What stands at an offset of a sheet before its end, by the tests in their order.
+use Rattle.std.specs.Prelude.{Err}
 use mathlib.Core.Path.{◌≡◌}
 use mathlib.Core.List.{List}
 use Prim.Native.Nat.{ℕ, ◌+◌, ◌-◌, ◌≤◌, ◌<◌}
@@ -7,20 +8,19 @@ use borrow.Author.Tests.{ne_eqb, eq-eqb, lt-leb, lt-ltb, le-ltb}
 use lib.ListN.{length, get_or}
 use Rattle.answer.specs.declared.Refusal.TheVariants.{Opcode, Truncated}
 use Rattle.sheet.specs.declared.Places.{Places}
-use Rattle.sheet.specs.declared.Read.TheVariants.{Fault}
 use Rattle.sheet.specs.Read.{size_of, two_places, one_place, read_among, read_at}
 
 module _ (w : ℕ) (s : List ℕ) (i : ℕ) where
-  pub opcode_zero : i < length s → get_or s i 0 ≡ 0 → Fault Opcode ≡ read_at w s i
+  pub opcode_zero : i < length s → get_or s i 0 ≡ 0 → Err Opcode ≡ read_at w s i
   unfolding read_among
   opcode_zero m h = rw (lt-leb _ _ m, eq-eqb _ _ h)
 
-  pub opcode_high : i < length s → (get_or s i 0 ≡ 0 → ⊥) → 8 < get_or s i 0 → Fault Opcode ≡ read_at w s i
+  pub opcode_high : i < length s → (get_or s i 0 ≡ 0 → ⊥) → 8 < get_or s i 0 → Err Opcode ≡ read_at w s i
   unfolding read_among
   opcode_high m n h = rw (lt-leb _ _ m, ne_eqb _ _ n, lt-ltb _ _ h)
 
   module _ (m : i < length s) (n : get_or s i 0 ≡ 0 → ⊥) (l : get_or s i 0 ≤ 8) (z : ℕ) (ez : z ≡ size_of w (get_or s i 0)) where
-    pub truncated : length s - i < z → Fault Truncated ≡ read_at w s i
+    pub truncated : length s - i < z → Err Truncated ≡ read_at w s i
     unfolding read_among
     truncated h =
         let k : length s < i + size_of w (get_or s i 0) = omega arith in

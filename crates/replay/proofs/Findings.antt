@@ -1,4 +1,5 @@
 -- What a replay's answer says of its records.
+use Rattle.std.specs.Prelude.{Ok, Err, Some, None}
 use mathlib.Core.Path.{◌≡◌, refl, sym, ap, ap₂, subst, ◌∙◌}
 use mathlib.Core.Bool.{Bool, true, false, cond, true≢false, false≢true}
 use mathlib.Core.List.{List, [], ◌∷◌, ◌++◌}
@@ -10,8 +11,7 @@ use borrow.Author.Tests.{eq-eqb, eqb-true, eqb-false, leb-true}
 use lib.Dec.{eqb, leb}
 use lib.ListN.{length, get_or, take, drop, length-append, get_or-append}
 use lib.Seq.{take_all, take_at, drop-append-add, get_or-append-add}
-use Rattle.answer.specs.declared.Answer.{Answer}
-use Rattle.answer.specs.declared.Answer.TheVariants as Answers
+use Rattle.answer.specs.Answer.{Answer, refused_at}
 use Rattle.answer.specs.declared.Refusal.TheVariants.{Records, RecordCount}
 use Rattle.answer.specs.Refuse.{unless, is_done}
 use Rattle.answer.proofs.Refuse.{done_outcome, unless_done}
@@ -30,8 +30,7 @@ use Rattle.sheet.proofs.FromStart.{state_after_lem, offset_by, vectors_by, end_v
 use Rattle.shuffle.specs.Shuffle.{record_length, record_words}
 use Rattle.shuffle.proofs.Widths.{sized, records_within}
 use Rattle.replay.specs.declared.Finding.{Finding}
-use Rattle.replay.specs.declared.ReplayAnswer.{ReplayAnswer}
-use Rattle.replay.specs.declared.ReplayAnswer.TheVariants.{Holds, FirstFalse}
+use Rattle.replay.specs.ReplayAnswer.{ReplayAnswer, false_record}
 use Rattle.replay.specs.Difference.{words_in_order, record_at, agreeing, same_words, difference}
 use Rattle.replay.specs.Replay.{state_by, recorded, replayed, first_false, record_count, record_tests, replay_tests, answered, is_refused}
 use Rattle.replay.specs.Findings.{record_bytes, record_word, state_bytes, state_word, IsTrue, AllTrue, Named, Says}
@@ -176,10 +175,10 @@ module _ (w : ℕ) (hw : Bytewise w) (s : List ℕ) (hs : Bytes s) (b : List ℕ
       says_from hr sound few n (suc k) (omega arith) (λ i m. up_to k h now i m (ℕ_discrete i k)))
       (λ f. (k, refl, named w hw s hs b hb k r hr l f sound (omega (arith, l, few)) h))
 
-  holds_from : AllTrue w s b r → (n k : ℕ) → k + n ≡ record_count w r → first_false n w s b r k ≡ Holds
+  holds_from : AllTrue w s b r → (n k : ℕ) → k + n ≡ record_count w r → first_false n w s b r k ≡ Ok None
   holds_from h zero k e = refl
   holds_from h (suc n) k e =
-      ap (λ (t : Bool). cond t (first_false n w s b r (suc k)) (FirstFalse (suc k) (told k))) (true_holds w hw s hs b hb k r (h k (omega arith)))
+      ap (λ (t : Bool). cond t (first_false n w s b r (suc k)) (Ok (Some (false_record (suc k) (told k))))) (true_holds w hw s hs b hb k r (h k (omega arith)))
       ∙ holds_from h n (suc k) (omega arith)
 
   -- k records from the one with m before it hold
@@ -188,7 +187,7 @@ module _ (w : ℕ) (hw : Bytewise w) (s : List ℕ) (hs : Bytes s) (b : List ℕ
   skip (suc k) m n h =
       let e : suc m + k ≡ m + suc k = omega arith in
       ap (λ (n : ℕ). first_false n w s b r m) (suc-add k n)
-      ∙ ap (λ (t : Bool). cond t (first_false (k + n) w s b r (suc m)) (FirstFalse (suc m) (told m))) (true_holds w hw s hs b hb m r (h m (omega arith)))
+      ∙ ap (λ (t : Bool). cond t (first_false (k + n) w s b r (suc m)) (Ok (Some (false_record (suc m) (told m))))) (true_holds w hw s hs b hb m r (h m (omega arith)))
       ∙ skip k (suc m) n (λ i l. h i (omega (arith, l))) ∙ ap (first_false n w s b r) e
 
 -- the same records from some number on
@@ -197,7 +196,7 @@ alike w s b r q zero k h = refl
 alike w s b r q (suc n) k h =
     let e = h k (omega arith) in
     ap₂ {C = ReplayAnswer} (λ x rest. cond (same_words x (replayed w s b k)) rest
-    (FirstFalse (suc k) (difference (state_by w s b k).offset x (replayed w s b k)))) e
+    (Ok (Some (false_record (suc k) (difference (state_by w s b k).offset x (replayed w s b k)))))) e
     (alike w s b r q n (suc k) (λ i l. h i (omega (arith, l))))
 
 -- ---- behind the tests
@@ -214,24 +213,24 @@ module _ (w : ℕ) (s b r : List ℕ) (t : is_done (replay_tests w s b r) ≡ tr
       let whole = eqb (length r % record_length w) 0 in
       let few = leb (record_count w r) (command_count w s) in
       let tests = passes place_count w _ s (record_tests w (length r) (command_count w s)) (done_passed place_count w _ s _ t) in
-      let rest = (unless_done whole Records (unless few RecordCount (Answers.Done 0)) (ap is_done tests ∙ t)).1 in
-      leb-true (record_count w r) (command_count w s) (unless_done few RecordCount (Answers.Done 0) rest).0
+      let rest = (unless_done whole Records (unless few RecordCount (Ok 0)) (ap is_done tests ∙ t)).1 in
+      leb-true (record_count w r) (command_count w s) (unless_done few RecordCount (Ok 0) rest).0
 
 done_answer : (a : Answer) (x : ReplayAnswer) → is_done a ≡ true → answered a x ≡ x
-done_answer (Answers.Done n) x e = refl
-done_answer (Answers.Refused q i) x e = absurd (false≢true e)
+done_answer (Ok n) x e = refl
+done_answer (Err err) x e = absurd (false≢true e)
 
 says_by : (w : ℕ) (s b r : List ℕ) → Bytes s → Bytes b → Bytes r → (a : Answer) → replay_tests w s b r ≡ a
     → Says w s b r (answered a (first_false (record_count w r) w s b r 0))
-says_by w s b r hs hb hr (Answers.Refused q i) e = e
-says_by w s b r hs hb hr (Answers.Done n) e =
+says_by w s b r hs hb hr (Err err) e = e
+says_by w s b r hs hb hr (Ok n) e =
     let t = ap is_done e in
     says_from w (known w s b r t) s hs b hb r hr (sound w s b r t) (enough w s b r t) (record_count w r) 0 (zero-add (record_count w r))
     (λ i l. absurd (omega (arith, l)))
 
 tests_done : (a : Answer) (x : ReplayAnswer) → is_refused (answered a x) ≡ false → is_done a ≡ true
-tests_done (Answers.Done n) x e = refl
-tests_done (Answers.Refused q i) x e = absurd (true≢false e)
+tests_done (Ok n) x e = refl
+tests_done (Err err) x e = absurd (true≢false e)
 
 pub replays_find : ReplaysFind
 replays_find w s b r hs hb hr =
@@ -245,11 +244,11 @@ replays_find w s b r hs hb hr =
 
 -- ---- a false record by itself
 
-not_refused : (a : Answer) (x : ReplayAnswer) (n : ℕ) (f : Finding) → answered a x ≡ FirstFalse n f → is_done a ≡ true
-not_refused (Answers.Done m) x n f e = refl
-not_refused (Answers.Refused q i) x n f e = let z : ◌≡◌ {A = ℕ} 0 1 = cc in absurd (omega arith)
+not_refused : (a : Answer) (x : ReplayAnswer) (n : ℕ) (f : Finding) → answered a x ≡ Ok (Some (false_record n f)) → is_done a ≡ true
+not_refused (Ok m) x n f e = refl
+not_refused (Err err) x n f e = let z : ◌≡◌ {A = ℕ} 0 1 = cc in absurd (omega arith)
 
-the_named : (w : ℕ) (s b r : List ℕ) (j : ℕ) (f : Finding) → Says w s b r (FirstFalse (suc j) f) → Named w s b r j f
+the_named : (w : ℕ) (s b r : List ℕ) (j : ℕ) (f : Finding) → Says w s b r (Ok (Some (false_record (suc j) f))) → Named w s b r j f
 the_named w s b r j f h = let e : h.0 ≡ j = omega (arith, h.1) in subst (λ (i : ℕ). Named w s b r i f) e h.2
 
 pub records_apart : RecordsApart

@@ -1,4 +1,5 @@
 -- What a replay refuses, by the tests in their order.
+use Rattle.std.specs.Prelude.{Ok, None}
 use mathlib.Core.Path.{◌≡◌, refl, sym, ap, ◌∙◌}
 use mathlib.Core.Bool.{true, false}
 use mathlib.Core.List.{List, []}
@@ -7,8 +8,7 @@ use native.Mathlib.Nat.{zero-mod, zero-div}
 use native.Mathlib.Omega.{arith}
 use borrow.Author.Tests.{eq-eqb, ne_eqb, lt-leb, le-leb}
 use lib.ListN.{length}
-use Rattle.answer.specs.declared.Answer.{Answer}
-use Rattle.answer.specs.declared.Answer.TheVariants as Answers
+use Rattle.answer.specs.Answer.{Answer, refused_at}
 use Rattle.answer.specs.declared.Refusal.{Refusal}
 use Rattle.answer.specs.declared.Refusal.TheVariants.{Records, RecordCount}
 use Rattle.answer.specs.Refuse.{is_done}
@@ -18,7 +18,6 @@ use Rattle.sheet.specs.Sheet.{command_count}
 use Rattle.sheet.specs.Run.{run_answer}
 use Rattle.sheet.proofs.SheetAnswer.{passes, done_passed, refused_alike}
 use Rattle.shuffle.specs.Shuffle.{record_length}
-use Rattle.replay.specs.declared.ReplayAnswer.TheVariants.{Holds, Refused}
 use Rattle.replay.specs.Difference.{same_words}
 use Rattle.replay.specs.Replay.{recorded, replayed, first_false, record_count, record_tests, replay_tests, answered, replay_answer, is_refused}
 use Rattle.replay.specs.Refusals.{ReplaysRefuse}
@@ -38,21 +37,21 @@ module _ (w : ℕ) (s b : List ℕ) where
     answers : {a : Answer} → replay_tests w s b r ≡ a → replay_answer w s b r ≡ answered a (first_false (record_count w r) w s b r 0)
     answers e = ap (λ (a : Answer). answered a (first_false (record_count w r) w s b r 0)) e
 
-    as_run : (q : Refusal) (i : ℕ) → run_answer w s b ≡ Answers.Refused q i → replay_answer w s b r ≡ Refused q i
+    as_run : (q : Refusal) (i : ℕ) → run_answer w s b ≡ refused_at q i → replay_answer w s b r ≡ refused_at q i
     as_run q i e = answers (sym (refused_alike place_count w _ s _ (record_tests w (length r) (command_count w s)) refl (ap is_done e)) ∙ e)
 
     module _ (t : is_done (run_answer w s b) ≡ true) where
-      partial : (length r % record_length w ≡ 0 → ⊥) → replay_answer w s b r ≡ Refused Records 0
-      partial h = answers {a = Answers.Refused Records 0} (by_records t r ∙ rw (ne_eqb (length r % record_length w) 0 h))
+      partial : (length r % record_length w ≡ 0 → ⊥) → replay_answer w s b r ≡ refused_at Records 0
+      partial h = answers {a = refused_at Records 0} (by_records t r ∙ rw (ne_eqb (length r % record_length w) 0 h))
 
       module _ (whole : length r % record_length w ≡ 0) where
-        surplus : command_count w s < record_count w r → replay_answer w s b r ≡ Refused RecordCount 0
-        surplus h = answers {a = Answers.Refused RecordCount 0} (by_records t r ∙ rw (eq-eqb (length r % record_length w) 0 whole, lt-leb (record_count w r) (command_count w s) h))
+        surplus : command_count w s < record_count w r → replay_answer w s b r ≡ refused_at RecordCount 0
+        surplus h = answers {a = refused_at RecordCount 0} (by_records t r ∙ rw (eq-eqb (length r % record_length w) 0 whole, lt-leb (record_count w r) (command_count w s) h))
 
-        passed : record_count w r ≤ command_count w s → replay_tests w s b r ≡ Answers.Done 0
+        passed : record_count w r ≤ command_count w s → replay_tests w s b r ≡ Ok 0
         passed h = by_records t r ∙ rw (eq-eqb (length r % record_length w) 0 whole, le-leb (record_count w r) (command_count w s) h)
 
-  none : is_done (run_answer w s b) ≡ true → replay_answer w s b [] ≡ Holds
+  none : is_done (run_answer w s b) ≡ true → replay_answer w s b [] ≡ Ok None
   none t =
       let z : record_count w [] ≡ 0 = zero-div (record_length w) in
       answers [] (passed [] t (zero-mod (record_length w)) (omega (arith, z))) ∙ ap (λ (n : ℕ). first_false n w s b [] 0) z

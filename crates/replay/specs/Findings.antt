@@ -1,7 +1,7 @@
 -- Document 02, Paper 10, in its words: what a replay's answer says. A record is given by the number j of those before it, so it is number suc j, and what it is
 -- held against is the state after suc j commands. The statements; proofs/Findings.antt shows them.
-use Rattle.std.specs.Prelude.{◌≡◌, true, false, List, [], ◌++◌, ℕ, zero, suc, ◌*◌, ◌^◌, ◌-◌, ◌≤◌, ◌<◌, length, get_or, take, drop}
-use Rattle.answer.specs.declared.Answer.TheVariants as Answers
+use Rattle.std.specs.Prelude.{◌≡◌, true, false, List, [], ◌++◌, ℕ, zero, suc, ◌*◌, ◌^◌, ◌-◌, ◌≤◌, ◌<◌, length, get_or, take, drop, Ok, Err, Some, None}
+use Rattle.answer.specs.Answer.{refused_at}
 use Rattle.answer.specs.Refuse.{is_done}
 use Rattle.invertible.specs.RoundTrip.{Forward}
 use Rattle.memory.specs.Bytes.{Bytes}
@@ -11,8 +11,7 @@ use Rattle.sheet.specs.Effect.{at}
 use Rattle.sheet.specs.Run.{steps, vectors_from, vectors_in, vector_bytes, run_answer, run_bytes}
 use Rattle.shuffle.specs.Shuffle.{record_length}
 use Rattle.replay.specs.declared.Finding.{Finding}
-use Rattle.replay.specs.declared.ReplayAnswer.{ReplayAnswer}
-use Rattle.replay.specs.declared.ReplayAnswer.TheVariants.{Holds, FirstFalse, Refused}
+use Rattle.replay.specs.ReplayAnswer.{ReplayAnswer, false_record}
 use Rattle.replay.specs.Replay.{state_by, record_count, first_false, replay_tests, replay_answer, is_refused}
 
 -- the bytes of a record, and word n of its Vp
@@ -56,15 +55,15 @@ pub record Named (w : ℕ) (s b r : List ℕ) (j : ℕ) (f : Finding) : Type 0 w
 
 -- what each answer says
 abbrev pub Says : ℕ → List ℕ → List ℕ → List ℕ → ReplayAnswer → Type 0
-Says w s b r Holds = AllTrue w s b r
-Says w s b r (FirstFalse n f) = (j : ℕ) × (n ≡ suc j) × Named w s b r j f
-Says w s b r (Refused q i) = replay_tests w s b r ≡ Answers.Refused q i
+Says w s b r (Ok None) = AllTrue w s b r
+Says w s b r (Ok (Some found)) = (j : ℕ) × (found.number ≡ suc j) × Named w s b r j found.finding
+Says w s b r (Err err) = replay_tests w s b r ≡ Err err
 
 -- The answer says what is so. Unless it is a refusal, it is that every record holds exactly when all are true: only then by `says`, and always then by
 -- `holds_if`
 pub record Finds (w : ℕ) (s b r : List ℕ) : Type 0 where
   pub says : Says w s b r (replay_answer w s b r)
-  pub holds_if : is_refused (replay_answer w s b r) ≡ false → AllTrue w s b r → replay_answer w s b r ≡ Holds
+  pub holds_if : is_refused (replay_answer w s b r) ≡ false → AllTrue w s b r → replay_answer w s b r ≡ Ok None
 
 abbrev pub ReplaysFind : Type 0
 ReplaysFind = (w : ℕ) (s b r : List ℕ) → Bytes s → Bytes b → Bytes r → Finds w s b r
@@ -73,7 +72,7 @@ ReplaysFind = (w : ℕ) (s b r : List ℕ) → Bytes s → Bytes b → Bytes r �
 -- and it is true among them: then what is found in q is the first false one of those behind it in r, or that they hold
 abbrev pub RecordsApart : Type 0
 RecordsApart = (w : ℕ) (s b r q : List ℕ) (j : ℕ) (f : Finding) → Bytes s → Bytes b → Bytes r
-    → replay_answer w s b r ≡ FirstFalse (suc j) f
+    → replay_answer w s b r ≡ Ok (Some (false_record (suc j) f))
     → length q ≡ length r → ((i : ℕ) → (i ≡ j → ⊥) → record_bytes w q i ≡ record_bytes w r i) → IsTrue w s b q j
     → replay_answer w s b q ≡ first_false (record_count w r - suc j) w s b r (suc j)
 
@@ -85,7 +84,7 @@ recording_from (suc n) w s b k = state_bytes w s b k ++ recording_from n w s b (
 -- .. hold, from the first on: all, or fewer, of a run that is not refused
 abbrev pub RecordingsHold : Type 0
 RecordingsHold = (w : ℕ) (s b : List ℕ) (n : ℕ) → Bytes s → Bytes b → is_done (run_answer w s b) ≡ true → n ≤ command_count w s
-    → replay_answer w s b (recording_from n w s b 0) ≡ Holds
+    → replay_answer w s b (recording_from n w s b 0) ≡ Ok None
 
 -- The states are the forward run's own: after k commands they are those of a run over the sheet's first k commands, and after all of them the whole run's
 pub record StatesOfRun (w : ℕ) (s b : List ℕ) : Type 0 where

@@ -1,20 +1,20 @@
 -- C tells a replay's answers by their numbers, with the finding beside a false record. The statements; proofs/Injective.antt shows them.
-use Rattle.std.specs.Prelude.{◌≡◌, Bool, true, false, List, ℕ, ◌^◌, ◌≤◌, ◌<◌, eqb, leb}
-use Rattle.replay.specs.declared.ReplayAnswer.{ReplayAnswer}
-use Rattle.replay.specs.declared.ReplayAnswer.TheVariants.{Holds, FirstFalse, Refused}
+use Rattle.std.specs.Prelude.{◌≡◌, Bool, true, false, List, ℕ, ◌^◌, ◌≤◌, ◌<◌, eqb, leb, Ok, Err, Some, None}
+use Rattle.replay.specs.ReplayAnswer.{ReplayAnswer, false_record}
+use Rattle.answer.specs.Answer.{refused_at}
 use Rattle.replay.specs.Replay.{replay_answer, is_refused}
 use Rattle.replay.specs.Number.{replay_number, finding_after}
 
 abbrev pub is_holds : ReplayAnswer → Bool
-is_holds Holds = true
-is_holds (FirstFalse n f) = false
-is_holds (Refused r at) = false
+is_holds (Ok None) = true
+is_holds (Ok (Some found)) = false
+is_holds (Err err) = false
 
 -- the answers that there are: a record's number is from 1, and a sheet has 2,048 commands at most
 abbrev pub ReplayFits : ReplayAnswer → Type 0
-ReplayFits Holds = Unit {0}
-ReplayFits (FirstFalse n f) = (1 ≤ n) × (n ≤ 2048)
-ReplayFits (Refused r at) = at < 2 ^ 32
+ReplayFits (Ok None) = Unit {0}
+ReplayFits (Ok (Some found)) = (1 ≤ found.number) × (found.number ≤ 2048)
+ReplayFits (Err err) = err.offset < 2 ^ 32
 
 -- every answer of a replay is one of these
 abbrev pub EveryReplayFits : Type 0

@@ -1,3 +1,4 @@
+pub mod ReplayAnswer
 pub mod Difference
 pub mod Replay
 pub mod Number

@@ -5,7 +5,7 @@
 ghost use Rattle.std.specs.Prelude.{◌≡◌};
 ghost use Rattle.replay.specs.Number.{replay_number, finding_after};
 
-use answer::{Answer, Refusal};
+use answer::Refused;
 
 // The first word that differs in a record: the offset of the record's command, the word's place and number, what stands there, and what should.
 #[derive(Clone, Copy)]
@@ -17,13 +17,15 @@ pub struct Finding {
     pub expected: u64,
 }
 
-// Every record holds; or the first false one is told, with its number from 1; or a refusal, with its offset as in `Answer`.
+// A false record: its number, from 1, and what is told of it.
 #[derive(Clone, Copy)]
-pub enum ReplayAnswer {
-    Holds,
-    FirstFalse(u64, Finding),
-    Refused(Refusal, u32),
+pub struct FalseRecord {
+    pub number: u64,
+    pub finding: Finding,
 }
+
+// The first false record, or none where every record holds.
+pub type ReplayAnswer = Result<Option<FalseRecord>, Refused>;
 
 // The answer as C receives it: the one 64-bit number, and beside a false record the finding's five values.
 pub fn report(a: ReplayAnswer, finding: &mut [u64; 5]) -> u64
@@ -31,11 +33,12 @@ pub fn report(a: ReplayAnswer, finding: &mut [u64; 5]) -> u64
     ensures finding_after { finding.new ≡ finding_after a finding.old }
 {
     match a {
-        ReplayAnswer::Holds => 0,
-        ReplayAnswer::FirstFalse(n, f) => {
+        Ok(None) => 0,
+        Ok(Some(r)) => {
+            let f = r.finding;
             *finding = [f.offset, f.place, f.word, f.found, f.expected];
-            n
+            r.number
         }
-        ReplayAnswer::Refused(r, at) => answer::number(Answer::Refused(r, at)),
+        Err(e) => answer::number(Err(e)),
     }
 }

@@ -1,4 +1,5 @@
 -- The check of a whole sheet, command by command: what is still to come, and what was passed.
+use Rattle.std.specs.Prelude.{Ok, Err, Some, None}
 use mathlib.Core.Path.{◌≡◌, refl, sym, ap, ◌∙◌}
 use mathlib.Core.Bool.{Bool, false, ◌||◌, or_assoc, or-false}
 use mathlib.Core.List.{List}
@@ -10,13 +11,12 @@ use lib.ListN.{length, set, length-set}
 use lib.Seq.{sets}
 use Rattle.answer.specs.declared.Refusal.{Refusal}
 use Rattle.sheet.specs.declared.Decoded.{Decoded}
-use Rattle.sheet.specs.declared.Read.TheVariants.{Got, Fault, End}
-use Rattle.sheet.specs.declared.Summary.TheVariants.{Whole, Faulty}
+use Rattle.answer.specs.Answer.{refused_at}
+use Rattle.sheet.specs.Work.{counts, total_units, summed, summary}
 use Rattle.sheet.specs.Read.{place_count, read_at}
 use Rattle.sheet.specs.Sheet as Plans
 use Rattle.sheet.specs.Sheet.{Outcome, refused, behind, scan_from}
 use Rattle.sheet.specs.Start.{among}
-use Rattle.sheet.specs.Work.{total_units, summed, summary}
 use Rattle.sheet.specs.Sound.{SoundDecoded}
 use Rattle.sheet.proofs.Work.{units_none, units_more}
 use Rattle.sheet.proofs.Scan.{scan_got, scan_fault, scan_end}
@@ -51,7 +51,7 @@ module _ (w : ℕ) (s : List ℕ) (x : ℕ) where
       }
 
   module _ {l₀ l : List ℕ} {n t i : ℕ} {m : Bool} (now : Scanning l₀ l n t i m) where
-    pub more : (d : Decoded) {l₁ : List ℕ} {m₁ : Bool} → read_at w s i ≡ Got d → SoundDecoded w (length s) i d → l₁ ≡ set l n i → m₁ ≡ m || eqb x i
+    pub more : (d : Decoded) {l₁ : List ℕ} {m₁ : Bool} → read_at w s i ≡ Ok (Some d) → SoundDecoded w (length s) i d → l₁ ≡ set l n i → m₁ ≡ m || eqb x i
         → Scanning l₀ l₁ (n + 1) (t + d.units) d.next m₁
     more d {l₁} {m₁} e h el em =
         let f = length s - n in
@@ -78,8 +78,8 @@ module _ (w : ℕ) (s : List ℕ) (x : ℕ) where
           stored = ap (λ (j : ℕ). sets l₁ j (scan_from g w s d.next).offsets) (add-one n) ∙ rw el (rw step at now.stored);
         }
 
-    pub faulty : (r : Refusal) → read_at w s i ≡ Fault r → i < length s
-        → (Faulty r i ≡ summary w s (scan_from (length s) w s 0))
+    pub faulty : (r : Refusal) → read_at w s i ≡ Err r → i < length s
+        → (refused_at r i ≡ summary w s (scan_from (length s) w s 0))
         × ((m ≡ among x (scan_from (length s) w s 0).offsets) × (l ≡ sets l₀ 0 (scan_from (length s) w s 0).offsets))
     faulty r e inside =
         let low = now.low in
@@ -89,8 +89,8 @@ module _ (w : ℕ) (s : List ℕ) (x : ℕ) where
           (sym (or-false m) ∙ (rw step at now.sought), rw step at now.stored),
         )
 
-    pub ended : read_at w s i ≡ End
-        → (Whole n t ≡ summary w s (scan_from (length s) w s 0))
+    pub ended : read_at w s i ≡ Ok None
+        → (Ok (counts n t) ≡ summary w s (scan_from (length s) w s 0))
         × ((m ≡ among x (scan_from (length s) w s 0).offsets) × (l ≡ sets l₀ 0 (scan_from (length s) w s 0).offsets))
     ended e =
         let step = scan_end place_count w s (length s - n) i e in
@@ -99,6 +99,6 @@ module _ (w : ℕ) (s : List ℕ) (x : ℕ) where
         let en : n ≡ length (scan_from (length s) w s 0).offsets = omega arith in
         let et : t ≡ total_units w s (scan_from (length s) w s 0).offsets = omega arith in
         let o : ◌≡◌ {A = Outcome} Plans.Sound (scan_from (length s) w s 0).outcome = rw step at now.outcome in (
-          ap (λ (a : ℕ). Whole a t) en ∙ ap (Whole (length (scan_from (length s) w s 0).offsets)) et ∙ ap (summed w s (scan_from (length s) w s 0).offsets) o,
+          ap (λ (a : ℕ). Ok (counts a t)) en ∙ ap (Ok (counts (length (scan_from (length s) w s 0).offsets)) et ∙ ap (summed w s (scan_from (length s) w s 0).offsets) o,
           (sym (or-false m) ∙ (rw step at now.sought), rw step at now.stored),
         )

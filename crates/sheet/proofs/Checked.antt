@@ -1,5 +1,6 @@
 -- What the check of a sheet tells of its plan.
-use mathlib.Core.Path.{◌≡◌, refl, ap, ap₂, ◌∙◌}
+use Rattle.std.specs.Prelude.{Ok}
+use mathlib.Core.Path.{◌≡◌, refl, sym, ap, ap₂, ◌∙◌}
 use mathlib.Core.List.{List, ◌++◌}
 use Prim.Native.Nat.{ℕ, ◌+◌, ◌*◌, ◌≤◌, ◌<◌}
 use native.Mathlib.Decide.{dec_le}
@@ -8,11 +9,13 @@ use lib.ListN.{length, take, drop}
 use lib.Seq.{sets, sets-eq, length-sets, take_at}
 use Rattle.answer.specs.declared.Refusal.{Refusal}
 use Rattle.answer.specs.declared.Refusal.TheVariants.{Sheet}
-use Rattle.sheet.specs.declared.Summary.TheVariants.{Whole, Faulty}
+use Rattle.answer.specs.Answer.{refused_at}
+use Rattle.answer.proofs.Results.{ok_one, same_refusal, same_offset}
+use Rattle.sheet.specs.declared.Counts.{Counts}
+use Rattle.sheet.specs.Work.{counts, total_units, summed, summary}
 use Rattle.sheet.specs.Read.{place_count}
 use Rattle.sheet.specs.Sheet as Plans
 use Rattle.sheet.specs.Sheet.{Outcome, Plan, scan_from, plan_of}
-use Rattle.sheet.specs.Work.{total_units, summed, summary}
 use Rattle.sheet.proofs.Scan.{plan_scanned, plan_long}
 use Rattle.sheet.proofs.Rest.{few_commands, few_units}
 
@@ -22,15 +25,15 @@ pub record Checked (w : ℕ) (s l : List ℕ) (o : Outcome) (n t : ℕ) : Type 0
   pub count : n ≡ length l
   pub total : t ≡ total_units w s l
 
-summed_whole : (w : ℕ) (s l : List ℕ) (o : Outcome) (n t : ℕ) → Whole n t ≡ summed w s l o → Checked w s l o n t
-summed_whole w s l Plans.Sound n t e = record { sound = refl; count = cc; total = cc }
+summed_whole : (w : ℕ) (s l : List ℕ) (o : Outcome) (n t : ℕ) → Ok (counts n t) ≡ summed w s l o → Checked w s l o n t
+summed_whole w s l Plans.Sound n t e = record { sound = refl; count = ap (λ (k : Counts). k.commands) (ok_one e); total = ap (λ (k : Counts). k.units) (ok_one e) }
 summed_whole w s l (Plans.Faulty r i) n t e = let z : ◌≡◌ {A = ℕ} 0 1 = cc in absurd (omega arith)
 
-summed_faulty : (w : ℕ) (s l : List ℕ) (o : Outcome) (r : Refusal) (i : ℕ) → Faulty r i ≡ summed w s l o → o ≡ Plans.Faulty r i
+summed_faulty : (w : ℕ) (s l : List ℕ) (o : Outcome) (r : Refusal) (i : ℕ) → refused_at r i ≡ summed w s l o → o ≡ Plans.Faulty r i
 summed_faulty w s l Plans.Sound r i e = let z : ◌≡◌ {A = ℕ} 0 1 = cc in absurd (omega arith)
-summed_faulty w s l (Plans.Faulty q j) r i e = cc
+summed_faulty w s l (Plans.Faulty q j) r i e = ap₂ {C = Outcome} Plans.Faulty (sym (same_refusal e)) (sym (same_offset e))
 
-pub faulted : (w : ℕ) (s : List ℕ) (r : Refusal) (i : ℕ) → Faulty r i ≡ summary w s (plan_of w s) → (plan_of w s).outcome ≡ Plans.Faulty r i
+pub faulted : (w : ℕ) (s : List ℕ) (r : Refusal) (i : ℕ) → refused_at r i ≡ summary w s (plan_of w s) → (plan_of w s).outcome ≡ Plans.Faulty r i
 faulted w s r i e = summed_faulty w s (plan_of w s).offsets (plan_of w s).outcome r i e
 
 -- a sound sheet is not too long
@@ -59,7 +62,7 @@ module _ (w : ℕ) (s : List ℕ) (e : (plan_of w s).outcome ≡ Plans.Sound) wh
       omega (arith, sound_short)
 
 -- a sheet that was found sound
-module _ (w : ℕ) (s : List ℕ) {n t : ℕ} (e : Whole n t ≡ summary w s (plan_of w s)) where
+module _ (w : ℕ) (s : List ℕ) {n t : ℕ} (e : Ok (counts n t) ≡ summary w s (plan_of w s)) where
   pub checked : Checked w s (plan_of w s).offsets (plan_of w s).outcome n t
   checked = summed_whole w s (plan_of w s).offsets (plan_of w s).outcome n t e
 

@@ -1,5 +1,6 @@
 -- A sheet that is accepted among p places means the same among n, where n is not less than p: it is read alike, and a run of it leaves the vectors behind
 -- the first p.
+use Rattle.std.specs.Prelude.{Ok, Err, Some, None}
 use mathlib.Core.Path.{◌≡◌, refl, sym, ap, ap₂, ◌∙◌}
 use mathlib.Core.Bool.{Bool, true, false, cond, ◌||◌}
 use mathlib.Core.List.{List, [], ◌∷◌, ◌++◌, append_assoc, sum}
@@ -10,7 +11,6 @@ use borrow.Author.Tests.{leb-false, lt-leb, eq-eqb}
 use lib.Dec.{eqb, leb, ltb}
 use lib.ListN.{length, get_or, set, take, drop, length-set, length-drop, get_or-append}
 use lib.Seq.{set-append_left, take_all, take_at, drop_at}
-use Rattle.answer.specs.declared.Answer.TheVariants.{Done}
 use Rattle.answer.specs.declared.Refusal.{Refusal}
 use Rattle.answer.specs.declared.Refusal.TheVariants.{Sheet, Place, SamePlace}
 use Rattle.answer.specs.Refuse.{is_done}
@@ -27,9 +27,7 @@ use Rattle.quasigroup.proofs.Widths.{Bytewise, bytewise}
 use Rattle.sheet.specs.declared.Places.{Places}
 use Rattle.sheet.specs.declared.Command.{Command}
 use Rattle.sheet.specs.declared.Command.TheVariants.{Lmul, Rmul, Ldiv, Rdiv, Swap, Flip, Kmul, Kdiv}
-use Rattle.sheet.specs.declared.Read.{Read}
-use Rattle.sheet.specs.declared.Read.TheVariants.{Got, Fault, End}
-use Rattle.sheet.specs.Read.{size_of, got, two_place_command, two_places_among, one_place_command, one_place_among, read_among}
+use Rattle.sheet.specs.Read.{Read, size_of, got, two_place_command, two_places_among, one_place_command, one_place_among, read_among}
 use Rattle.sheet.specs.Sheet.{Sound, Plan, refused, behind, continue, scan_among, plan_among}
 use Rattle.sheet.specs.Effect.{at, vector_at, effect, undone}
 use Rattle.sheet.specs.Work.{units_in, total_units_among}
@@ -47,21 +45,21 @@ use Rattle.sheet.proofs.Undoing.{sound_undone, invertible, run_state_lem}
 
 -- what is read among fewer places is read among more, but for a fault
 abbrev Kept : Read → Read → Type 0
-Kept (Got d) r = r ≡ Got d
-Kept (Fault f) r = Unit {0}
-Kept End r = r ≡ End
+Kept (Ok (Some d)) r = r ≡ Ok (Some d)
+Kept (Err f) r = Unit {0}
+Kept (Ok None) r = r ≡ Ok None
 
 kept_same : (r : Read) → Kept r r
-kept_same (Got d) = refl
-kept_same (Fault f) = tt
-kept_same End = refl
+kept_same (Ok (Some d)) = refl
+kept_same (Err f) = tt
+kept_same (Ok None) = refl
 
 kept_by : (t : Bool) (a b c d : Read) → Kept a c → Kept b d → Kept (cond t a b) (cond t c d)
 kept_by true a b c d h k = h
 kept_by false a b c d h k = k
 
 -- a test that refuses among more places refuses among fewer
-kept_behind : (t u : Bool) (f : Refusal) (r : Read) → (t ≡ false → u ≡ false) → Kept (cond t (Fault f) r) (cond u (Fault f) r)
+kept_behind : (t u : Bool) (f : Refusal) (r : Read) → (t ≡ false → u ≡ false) → Kept (cond t (Err f) r) (cond u (Err f) r)
 kept_behind true u f r h = tt
 kept_behind false u f r h = rw (h refl) (kept_same r)
 
@@ -74,7 +72,7 @@ module _ (p n : ℕ) (few : p ≤ n) where
 
   two_kept : (b : ℕ) (q : Places) (next : ℕ) → Kept (two_places_among p b q next) (two_places_among n b q next)
   two_kept b q next =
-      let read = cond (eqb q.d q.s) (Fault SamePlace) (got (two_place_command b q) next) in
+      let read = cond (eqb q.d q.s) (Err SamePlace) (got (two_place_command b q) next) in
       kept_behind (leb p q.d || leb p q.s) (leb n q.d || leb n q.s) Place read (both_below q)
 
   one_kept : (b d k next : ℕ) → Kept (one_place_among p b d k next) (one_place_among n b d k next)
@@ -101,11 +99,11 @@ module _ (p n : ℕ) (few : p ≤ n) where
     scan_with : (f i : ℕ) (r q : Read) → read_among p w s i ≡ r → read_among n w s i ≡ q → Kept r q
         → ((j : ℕ) → (scan_among p f w s j).outcome ≡ Sound → PlanAlike (scan_among n f w s j) (scan_among p f w s j))
         → (continue r i (scan_among p f w s)).outcome ≡ Sound → PlanAlike (continue q i (scan_among n f w s)) (continue r i (scan_among p f w s))
-    scan_with f i (Got d) q er eq k rest e =
+    scan_with f i (Ok (Some d)) q er eq k rest e =
         let h = rest d.next e in
         (ap (λ (r : Read). continue r i (scan_among n f w s)) k ∙ ap (behind i) h.0, more (eq ∙ k ∙ sym er) h.1)
-    scan_with f i (Fault r) q er eq k rest e = let z : ◌≡◌ {A = ℕ} 0 1 = cc in absurd (omega arith)
-    scan_with f i End q er eq k rest e = (ap (λ (r : Read). continue r i (scan_among n f w s)) k, none)
+    scan_with f i (Err r) q er eq k rest e = let z : ◌≡◌ {A = ℕ} 0 1 = cc in absurd (omega arith)
+    scan_with f i (Ok None) q er eq k rest e = (ap (λ (r : Read). continue r i (scan_among n f w s)) k, none)
 
     scan_alike : (f i : ℕ) → (scan_among p f w s i).outcome ≡ Sound → PlanAlike (scan_among n f w s i) (scan_among p f w s i)
     scan_alike zero i e = (refl, none)
@@ -164,10 +162,10 @@ module _ {p w : ℕ} {u : List (List ℕ)} (st : State p w u) (t : List (List �
   effect_front s (Kdiv d k) h = one_front (left_division (width_of w) (vector_at w s k)) d h.place
 
   with_front : (s : List ℕ) (g : Direction) (i : ℕ) (r : Read) → SoundRead p w (length s) i r → step_with g w s r (u ++ t) ≡ step_with g w s r u ++ t
-  with_front s Forward i (Got d) h = effect_front s d.command h.sound
-  with_front s Backward i (Got d) h = effect_front s (undone d.command) (sound_undone p w (length s) d.command h.sound)
-  with_front s g i (Fault r) h = refl
-  with_front s g i End h = refl
+  with_front s Forward i (Ok (Some d)) h = effect_front s d.command h.sound
+  with_front s Backward i (Ok (Some d)) h = effect_front s (undone d.command) (sound_undone p w (length s) d.command h.sound)
+  with_front s g i (Err r) h = refl
+  with_front s g i (Ok None) h = refl
 
 module _ (w : ℕ) (hw : Bytewise w) (s : List ℕ) (hs : Bytes s) (p : ℕ) (t : List (List ℕ)) where
   steps_front : (g : Direction) (l : List ℕ) {u : List (List ℕ)} → State p w u → steps_among p g w s l (u ++ t) ≡ steps_among p g w s l u ++ t
@@ -261,8 +259,8 @@ module _ (p r : ℕ) (g : Direction) (w : ℕ) (s b : List ℕ) (hs : Bytes s) (
       let whole : Passed (p + r) w (eqb (length b) ((p + r) * w)) s =
       record { width = passed.width; operands = eq-eqb (length b) ((p + r) * w) size; sheet = ap (λ (q : Plan). q.outcome) h.0 ∙ passed.sheet } in
       sym (passes (p + r) w _ s _ whole)
-      ∙ ap (λ (q : Plan). Done (total_units_among (p + r) w s q.offsets)) h.0
-      ∙ ap Done (units_alike p (p + r) (omega arith) w s h.1)
+      ∙ ap (λ (q : Plan). Ok (total_units_among (p + r) w s q.offsets)) h.0
+      ∙ ap Ok (units_alike p (p + r) (omega arith) w s h.1)
       ∙ passes p w _ s _ passed
 
   -- the bytes afterwards: those that the run among p places leaves of the first, and the others as they were

@@ -1,4 +1,5 @@
 -- The units that reading tells, and those that a run answers.
+use Rattle.std.specs.Prelude.{Ok, Err, Some, None}
 use mathlib.Core.Path.{◌≡◌, refl, sym, ap, subst, ◌∙◌}
 use mathlib.Core.Bool.{true, false, ◌||◌}
 use mathlib.Core.List.{List, map, sum, sum-reverse, reverse}
@@ -8,8 +9,7 @@ use native.Mathlib.Omega.{arith}
 use borrow.Author.Tests.{eqb-true, eqb-false, ltb-true, ltb-false}
 use lib.Dec.{eqb, leb, ltb}
 use lib.ListN.{length, get_or}
-use Rattle.answer.specs.declared.Answer.{Answer}
-use Rattle.answer.specs.declared.Answer.TheVariants.{Done}
+use Rattle.answer.specs.Answer.{Answer}
 use Rattle.answer.proofs.Tests.{split, neither}
 use Rattle.invertible.proofs.Invertible.{each, map_reverse, map_same}
 use Rattle.quasigroup.specs.Tables.{known_width}
@@ -17,10 +17,8 @@ use Rattle.quasigroup.proofs.Widths.{of_known}
 use Rattle.sheet.specs.declared.Places.{Places}
 use Rattle.sheet.specs.declared.Command.{Command}
 use Rattle.sheet.specs.declared.Command.TheVariants.{Lmul, Rmul, Ldiv, Rdiv, Swap, Flip, Kmul, Kdiv}
-use Rattle.sheet.specs.declared.Read.{Read}
-use Rattle.sheet.specs.declared.Read.TheVariants.{Got, Fault, End}
+use Rattle.sheet.specs.Read.{Read, place_count, size_of, got, two_places, one_place, read_among, read_at}
 use Rattle.sheet.specs.Units.{units}
-use Rattle.sheet.specs.Read.{place_count, size_of, got, two_places, one_place, read_among, read_at}
 use Rattle.sheet.specs.Sheet.{Sound, plan_of}
 use Rattle.sheet.specs.Work.{units_in, units_at, total_units}
 use Rattle.invertible.specs.RoundTrip.{Direction, Forward, Backward}
@@ -32,9 +30,9 @@ use Rattle.sheet.proofs.Checked.{sound_units}
 
 -- of what was read where the byte b stands
 abbrev Told : ℕ → Read → Type 0
-Told b (Got d) = ReadUnits b d
-Told b (Fault r) = Unit {0}
-Told b End = Unit {0}
+Told b (Ok (Some d)) = ReadUnits b d
+Told b (Err r) = Unit {0}
+Told b (Ok None) = Unit {0}
 
 module _ (b n : ℕ) where
   counts : (c : Command) → units c ≡ 1 → (b ≡ 5 → ⊥) → (b ≡ 6 → ⊥) → Told b (got c n)
@@ -97,10 +95,10 @@ undone_alike (Kmul d k) = refl
 undone_alike (Kdiv d k) = refl
 
 done_with : (g : Direction) (b : ℕ) (r : Read) → Told b r → units_done g r ≡ units_in r
-done_with Forward b (Got d) h = sym h.of_command
-done_with Backward b (Got d) h = undone_alike d.command ∙ sym h.of_command
-done_with g b (Fault r) h = refl
-done_with g b End h = refl
+done_with Forward b (Ok (Some d)) h = sym h.of_command
+done_with Backward b (Ok (Some d)) h = undone_alike d.command ∙ sym h.of_command
+done_with g b (Err r) h = refl
+done_with g b (Ok None) h = refl
 
 -- ---- runs
 
@@ -122,7 +120,7 @@ module _ (w : ℕ) (s : List ℕ) where
 
 pub runs_count : RunsCount
 runs_count g w s b n =
-    by_tests place_count w _ s _ (λ (a : Answer). a ≡ Done n → RunUnits g w s n)
+    by_tests place_count w _ s _ (λ (a : Answer). a ≡ Ok n → RunUnits g w s n)
     (λ _ e. let z : ◌≡◌ {A = ℕ} 0 1 = cc in absurd (omega arith))
     (λ _ e. let z : ◌≡◌ {A = ℕ} 0 1 = cc in absurd (omega arith))
     (λ r i _ e. let z : ◌≡◌ {A = ℕ} 0 1 = cc in absurd (omega arith))

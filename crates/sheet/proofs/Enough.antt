@@ -1,12 +1,11 @@
 -- `length s` steps are enough for a scan.
+use Rattle.std.specs.Prelude.{Ok, Err, Some, None}
 use mathlib.Core.Path.{◌≡◌, refl, sym, ap, ◌∙◌}
 use mathlib.Core.List.{List}
 use Prim.Native.Nat.{ℕ, zero, suc, ◌-◌, ◌≤◌}
 use native.Mathlib.Omega.{arith}
 use lib.ListN.{length}
-use Rattle.sheet.specs.declared.Read.{Read}
-use Rattle.sheet.specs.declared.Read.TheVariants.{Got, Fault, End}
-use Rattle.sheet.specs.Read.{read_among}
+use Rattle.sheet.specs.Read.{Read, read_among}
 use Rattle.sheet.specs.Sheet.{Plan, behind, continue, scan_among}
 use Rattle.sheet.specs.Enough.{PlanFrom, at_command, at_fault, at_end, StepsEnough}
 use Rattle.sheet.specs.Sound.{SoundRead}
@@ -17,9 +16,9 @@ use Rattle.sheet.proofs.Rest.{enough, rest_got, rest_fault}
 module _ (n w : ℕ) (s : List ℕ) where
   plan_with : (f i : ℕ) (r : Read) → read_among n w s i ≡ r → SoundRead n w (length s) i r → length s - i ≤ suc f
       → ((j : ℕ) → length s - j ≤ f → PlanFrom n w s j (scan_among n f w s j)) → PlanFrom n w s i (continue r i (scan_among n f w s))
-  plan_with f i (Got d) e h l k = at_command e (k d.next (omega (arith, h.on)))
-  plan_with f i (Fault r) e h l k = at_fault e
-  plan_with f i End e h l k = at_end e
+  plan_with f i (Ok (Some d)) e h l k = at_command e (k d.next (omega (arith, h.on)))
+  plan_with f i (Err r) e h l k = at_fault e
+  plan_with f i (Ok None) e h l k = at_end e
 
   plan_from : (f i : ℕ) → length s - i ≤ f → PlanFrom n w s i (scan_among n f w s i)
   plan_from zero i h = at_end (read_end n w s i (omega arith))

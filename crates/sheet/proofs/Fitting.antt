@@ -1,4 +1,5 @@
 -- A sheet has at most 4,096 bytes, so its faults have small offsets and its units are few.
+use Rattle.std.specs.Prelude.{Ok, Err, Some, None}
 use mathlib.Core.Path.{◌≡◌, subst}
 use mathlib.Core.List.{List}
 use Prim.Native.Nat.{ℕ, zero, suc, ◌^◌, ◌≤◌, ◌<◌}
@@ -8,9 +9,7 @@ use lib.Dec.{ltb}
 use lib.ListN.{length}
 use Rattle.answer.specs.declared.Refusal.{Refusal}
 use Rattle.answer.specs.Injective.{Fits}
-use Rattle.sheet.specs.declared.Read.{Read}
-use Rattle.sheet.specs.declared.Read.TheVariants.{Got, Fault, End}
-use Rattle.sheet.specs.Read.{place_count, read_at}
+use Rattle.sheet.specs.Read.{Read, place_count, read_at}
 use Rattle.sheet.specs.Sheet.{Outcome, Sound, Faulty, Plan, continue, scan_from, plan_among, plan_of}
 use Rattle.sheet.specs.Sound.{SoundRead}
 use Rattle.sheet.specs.Fitting.{RunFits}
@@ -31,9 +30,9 @@ below (Faulty r i) h k = omega arith
 module _ (w : ℕ) (s : List ℕ) where
   inside_with : (r : Read) (i : ℕ) (F : ℕ → Plan) → SoundRead place_count w (length s) i r → ((n : ℕ) → Inside (length s) (F n).outcome)
       → Inside (length s) (continue r i F).outcome
-  inside_with (Got d) i F h k = k d.next
-  inside_with (Fault r) i F h k = h
-  inside_with End i F h k = tt
+  inside_with (Ok (Some d)) i F h k = k d.next
+  inside_with (Err r) i F h k = h
+  inside_with (Ok None) i F h k = tt
 
   inside : (f i : ℕ) → Inside (length s) (scan_from f w s i).outcome
   inside zero i = tt

@@ -1,4 +1,5 @@
 -- The state of a run after some commands: by the offsets that remain, in two parts, and within its sheet.
+use Rattle.std.specs.Prelude.{Ok, Err, Some, None}
 use mathlib.Core.Path.{◌≡◌, refl, sym, ap, ◌∙◌}
 use mathlib.Core.List.{List, [], ◌∷◌}
 use Prim.Native.Nat.{ℕ, zero, suc, ◌+◌, ◌*◌, ◌≤◌, min}
@@ -9,9 +10,7 @@ use lib.Seq.{take-nil}
 use Rattle.answer.specs.declared.Refusal.{Refusal}
 use Rattle.invertible.specs.RoundTrip.{Forward}
 use Rattle.sheet.specs.declared.Decoded.{Decoded}
-use Rattle.sheet.specs.declared.Read.{Read}
-use Rattle.sheet.specs.declared.Read.TheVariants.{Got, Fault, End}
-use Rattle.sheet.specs.Read.{place_count, read_at}
+use Rattle.sheet.specs.Read.{Read, place_count, read_at}
 use Rattle.sheet.specs.Sheet as Plans
 use Rattle.sheet.specs.Sheet.{Outcome, Plan, scan_from}
 use Rattle.sheet.specs.Work.{units_in, total_units}
@@ -33,13 +32,13 @@ module _ (w : ℕ) (s : List ℕ) where
   stays zero p r e h = refl
   stays (suc k) p r e h = stays k p r e h ∙ sym (after_read k p r e ∙ ap (state_after k w s) h)
 
-  remaining_got : (i : ℕ) (d : Decoded) → read_at w s i ≡ Got d → remaining w s i ≡ i ∷ remaining w s d.next
+  remaining_got : (i : ℕ) (d : Decoded) → read_at w s i ≡ Ok (Some d) → remaining w s i ≡ i ∷ remaining w s d.next
   remaining_got i d e = ap (λ (p : Plan). p.offsets) (rest_got place_count w s i d e)
 
-  remaining_fault : (i : ℕ) (r : Refusal) → read_at w s i ≡ Fault r → remaining w s i ≡ []
+  remaining_fault : (i : ℕ) (r : Refusal) → read_at w s i ≡ Err r → remaining w s i ≡ []
   remaining_fault i r e = ap (λ (p : Plan). p.offsets) (rest_fault place_count w s i r e)
 
-  pub remaining_end : (i : ℕ) → read_at w s i ≡ End → remaining w s i ≡ []
+  pub remaining_end : (i : ℕ) → read_at w s i ≡ Ok None → remaining w s i ≡ []
   remaining_end i e = rest_end place_count w s i e
 
   -- ---- as many as there are
@@ -54,14 +53,14 @@ module _ (w : ℕ) (s : List ℕ) where
       ap (λ (n : ℕ). state_after n w s p) (now (suc k) ∙ sym (now k)) ∙ h ∙ sym stays
 
   as_many_with : (k : ℕ) (p : RunState) (r : Read) → read_at w s p.offset ≡ r → ((q : RunState) → AsMany k q) → AsMany (suc k) p
-  as_many_with k p (Got d) e h =
+  as_many_with k p (Ok (Some d)) e h =
       let n = length (remaining w s d.next) in
       let m : min (suc k) (length (remaining w s p.offset)) ≡ suc (min k n) =
       ap (λ (l : List ℕ). min (suc k) (length l)) (remaining_got p.offset d e) ∙ suc-min-suc k n in
-      let q = advanced w s (Got d) p in
-      ap (λ (n : ℕ). state_after n w s p) m ∙ after_read (min k n) p (Got d) e ∙ h q ∙ sym (after_read k p (Got d) e)
-  as_many_with k p (Fault r) e h = none_left k p (remaining_fault p.offset r e) (after_read k p (Fault r) e) (h p)
-  as_many_with k p End e h = none_left k p (remaining_end p.offset e) (after_read k p End e) (h p)
+      let q = advanced w s (Ok (Some d)) p in
+      ap (λ (n : ℕ). state_after n w s p) m ∙ after_read (min k n) p (Ok (Some d)) e ∙ h q ∙ sym (after_read k p (Ok (Some d)) e)
+  as_many_with k p (Err r) e h = none_left k p (remaining_fault p.offset r e) (after_read k p (Err r) e) (h p)
+  as_many_with k p (Ok None) e h = none_left k p (remaining_end p.offset e) (after_read k p (Ok None) e) (h p)
 
   pub as_many : (k : ℕ) (p : RunState) → state_after (min k (length (remaining w s p.offset))) w s p ≡ state_after k w s p
   as_many zero p = ap (λ (n : ℕ). state_after n w s p) (zero-min (length (remaining w s p.offset)))
@@ -78,10 +77,10 @@ module _ (w : ℕ) (s : List ℕ) where
   counted t p = record { offset = p.offset; units = t + p.units; vectors = p.vectors }
 
   counted_read : (t : ℕ) (p : RunState) (r : Read) → advanced w s r (counted t p) ≡ counted t (advanced w s r p)
-  counted_read t p (Got d) =
-      ap {B = RunState} (λ u. record { offset = d.next; units = u; vectors = (advanced w s (Got d) p).vectors }) (add_assoc t p.units d.units)
-  counted_read t p (Fault r) = refl
-  counted_read t p End = refl
+  counted_read t p (Ok (Some d)) =
+      ap {B = RunState} (λ u. record { offset = d.next; units = u; vectors = (advanced w s (Ok (Some d)) p).vectors }) (add_assoc t p.units d.units)
+  counted_read t p (Err r) = refl
+  counted_read t p (Ok None) = refl
 
   counted_after : (k t : ℕ) (p : RunState) → state_after k w s (counted t p) ≡ counted t (state_after k w s p)
   counted_after zero t p = refl
@@ -110,11 +109,11 @@ module _ (w : ℕ) (s : List ℕ) where
       }
 
   done_with : (k : ℕ) (p : RunState) (r : Read) → read_at w s p.offset ≡ r → ((q : RunState) → Performed k q) → Performed (suc k) p
-  done_with k p (Got d) e h =
-      let q = advanced w s (Got d) p in
+  done_with k p (Ok (Some d)) e h =
+      let q = advanced w s (Ok (Some d)) p in
       let o = p.offset in
       let rest = take k (remaining w s d.next) in
-      let a = after_read k p (Got d) e in
+      let a = after_read k p (Ok (Some d)) e in
       let l : o ∷ rest ≡ take (suc k) (remaining w s o) = sym (ap (take (suc k)) (remaining_got o d e)) in
       let u : total_units w s (o ∷ rest) ≡ d.units + total_units w s rest =
       units_more place_count w s o rest ∙ ap (λ (r : Read). units_in r + total_units w s rest) e in
@@ -127,8 +126,8 @@ module _ (w : ℕ) (s : List ℕ) where
             ap (λ (q : RunState). q.units) a ∙ (h q).units ∙ add_assoc p.units d.units (total_units w s rest)
             ∙ ap (λ (t : ℕ). p.units + t) (sym u) ∙ ap (λ (l : List ℕ). p.units + total_units w s l) l;
       }
-  done_with k p (Fault r) e h = none_done k p (remaining_fault p.offset r e) (after_read k p (Fault r) e) (h p)
-  done_with k p End e h = none_done k p (remaining_end p.offset e) (after_read k p End e) (h p)
+  done_with k p (Err r) e h = none_done k p (remaining_fault p.offset r e) (after_read k p (Err r) e) (h p)
+  done_with k p (Ok None) e h = none_done k p (remaining_end p.offset e) (after_read k p (Ok None) e) (h p)
 
   pub done : (k : ℕ) (p : RunState) → Performed k p
   done zero p = record { vectors = refl; units = omega (arith, units_none place_count w s) }
@@ -139,10 +138,10 @@ module _ (w : ℕ) (s : List ℕ) where
   abbrev SoundFrom : ℕ → Type 0
   SoundFrom i = (scan_from (length s) w s i).outcome ≡ Plans.Sound
 
-  sound_next : (i : ℕ) (d : Decoded) → read_at w s i ≡ Got d → SoundFrom i → SoundFrom d.next
+  sound_next : (i : ℕ) (d : Decoded) → read_at w s i ≡ Ok (Some d) → SoundFrom i → SoundFrom d.next
   sound_next i d e h = sym (ap (λ (p : Plan). p.outcome) (rest_got place_count w s i d e)) ∙ h
 
-  no_fault : (i : ℕ) (r : Refusal) → read_at w s i ≡ Fault r → SoundFrom i → ⊥
+  no_fault : (i : ℕ) (r : Refusal) → read_at w s i ≡ Err r → SoundFrom i → ⊥
   no_fault i r e h =
       let o : ◌≡◌ {A = Outcome} (Plans.Faulty r i) Plans.Sound = sym (ap (λ (p : Plan). p.outcome) (rest_fault place_count w s i r e)) ∙ h in
       let z : ◌≡◌ {A = ℕ} 0 1 = cc in
@@ -152,22 +151,22 @@ module _ (w : ℕ) (s : List ℕ) where
   Reaches k p = SoundFrom p.offset → p.offset ≤ length s → (state_after k w s p).offset ≡ get_or (remaining w s p.offset) k (length s)
 
   here_with : (p : RunState) (r : Read) → read_at w s p.offset ≡ r → SoundRead place_count w (length s) p.offset r → Reaches zero p
-  here_with p (Got d) e h sound within = ap (λ (l : List ℕ). get_or l zero (length s)) (sym (remaining_got p.offset d e))
-  here_with p (Fault r) e h sound within = absurd (no_fault p.offset r e sound)
-  here_with p End e h sound within =
+  here_with p (Ok (Some d)) e h sound within = ap (λ (l : List ℕ). get_or l zero (length s)) (sym (remaining_got p.offset d e))
+  here_with p (Err r) e h sound within = absurd (no_fault p.offset r e sound)
+  here_with p (Ok None) e h sound within =
       let here : p.offset ≡ length s = omega arith in
       here ∙ ap (λ (l : List ℕ). get_or l zero (length s)) (sym (remaining_end p.offset e))
 
   reaches_with : (k : ℕ) (p : RunState) (r : Read) → read_at w s p.offset ≡ r → SoundRead place_count w (length s) p.offset r
       → ((q : RunState) → Reaches k q) → Reaches (suc k) p
-  reaches_with k p (Got d) e h ih sound within =
-      ap (λ (q : RunState). q.offset) (after_read k p (Got d) e)
-      ∙ ih (advanced w s (Got d) p) (sound_next p.offset d e sound) h.within
+  reaches_with k p (Ok (Some d)) e h ih sound within =
+      ap (λ (q : RunState). q.offset) (after_read k p (Ok (Some d)) e)
+      ∙ ih (advanced w s (Ok (Some d)) p) (sound_next p.offset d e sound) h.within
       ∙ ap (λ (l : List ℕ). get_or l (suc k) (length s)) (sym (remaining_got p.offset d e))
-  reaches_with k p (Fault r) e h ih sound within = absurd (no_fault p.offset r e sound)
-  reaches_with k p End e h ih sound within =
+  reaches_with k p (Err r) e h ih sound within = absurd (no_fault p.offset r e sound)
+  reaches_with k p (Ok None) e h ih sound within =
       let l = remaining_end p.offset e in
-      ap (λ (q : RunState). q.offset) (after_read k p End e) ∙ ih p sound within
+      ap (λ (q : RunState). q.offset) (after_read k p (Ok None) e) ∙ ih p sound within
       ∙ ap (λ (l : List ℕ). get_or l k (length s)) l ∙ sym (ap (λ (l : List ℕ). get_or l (suc k) (length s)) l)
 
   pub reaches : (k : ℕ) (p : RunState) → SoundFrom p.offset → p.offset ≤ length s → (state_after k w s p).offset ≡ get_or (remaining w s p.offset) k (length s)
@@ -181,9 +180,9 @@ module _ (w : ℕ) (s : List ℕ) where
     pub taken : 3 * p.units ≤ p.offset
 
   within_read : 1 ≤ w → (p : RunState) (r : Read) → SoundRead place_count w (length s) p.offset r → Within p → Within (advanced w s r p)
-  within_read l p (Got d) h i = record { inside = h.within; taken = omega (arith, h.taken l, i.taken) }
-  within_read l p (Fault r) h i = i
-  within_read l p End h i = i
+  within_read l p (Ok (Some d)) h i = record { inside = h.within; taken = omega (arith, h.taken l, i.taken) }
+  within_read l p (Err r) h i = i
+  within_read l p (Ok None) h i = i
 
   pub within_after : 1 ≤ w → (k : ℕ) (p : RunState) → Within p → Within (state_after k w s p)
   within_after l zero p i = i

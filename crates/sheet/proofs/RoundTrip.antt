@@ -1,4 +1,5 @@
 -- The round trip of a list of runs.
+use Rattle.std.specs.Prelude.{Ok}
 use mathlib.Core.Path.{◌≡◌, sym, ap, ◌∙◌}
 use mathlib.Core.Bool.{Bool}
 use mathlib.Core.List.{List}
@@ -6,8 +7,7 @@ use Prim.Native.Nat.{ℕ, ◌*◌}
 use borrow.Author.Tests.{eqb-true}
 use lib.Dec.{eqb}
 use lib.ListN.{length}
-use Rattle.answer.specs.declared.Answer.{Answer}
-use Rattle.answer.specs.declared.Answer.TheVariants.{Done, Refused}
+use Rattle.answer.specs.Answer.{Answer, refused_at}
 use Rattle.answer.specs.declared.Refusal.{Refusal}
 use Rattle.answer.proofs.Outcome.{outcome_holds, outcome_answer, outcome_back}
 use Rattle.invertible.specs.Invertible.{Invertible}
@@ -32,7 +32,7 @@ module _ (g : Direction) (w : ℕ) (s : List ℕ) (hs : Bytes s) (b : List ℕ) 
   fit n = eqb n (place_count * w)
 
   abbrev done : Answer
-  done = Done (total_units w s (plan_of w s).offsets)
+  done = Ok (total_units w s (plan_of w s).offsets)
 
   -- the bytes after a run that is not refused
   abbrev new : Direction → List ℕ → List ℕ
@@ -59,7 +59,7 @@ module _ (g : Direction) (w : ℕ) (s : List ℕ) (hs : Bytes s) (b : List ℕ) 
         ∙ ap (vector_bytes w) (run_back w width s hs st g)
         ∙ bytes_vectors w width b hb place_count size
 
-  run_cases : (P : Answer → Type 0) → ((r : Refusal) (i : ℕ) → P (Refused r i)) → (Passed place_count w (fit (length b)) s → (n : ℕ) → P (Done n))
+  run_cases : (P : Answer → Type 0) → ((r : Refusal) (i : ℕ) → P (refused_at r i)) → (Passed place_count w (fit (length b)) s → (n : ℕ) → P (Ok n))
       → P (run_answer w s b)
   run_cases P refused pass = refused_or place_count w (fit (length b)) s done P refused (λ p. pass p (total_units w s (plan_of w s).offsets))
 

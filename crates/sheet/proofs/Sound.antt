@@ -1,4 +1,5 @@
 -- What is known of what was read at an offset.
+use Rattle.std.specs.Prelude.{Ok, Err, Some}
 use mathlib.Core.Path.{◌≡◌, sym, subst}
 use mathlib.Core.Bool.{cond, ◌||◌}
 use mathlib.Core.List.{List}
@@ -13,7 +14,6 @@ use Rattle.sheet.specs.declared.Places.{Places}
 use Rattle.sheet.specs.declared.Command.{Command}
 use Rattle.sheet.specs.declared.Command.TheVariants.{Lmul, Rmul, Ldiv, Rdiv, Swap, Flip, Kmul, Kdiv}
 use Rattle.sheet.specs.declared.Decoded.{Decoded}
-use Rattle.sheet.specs.declared.Read.TheVariants.{Got, Fault}
 use Rattle.sheet.specs.Units.{units}
 use Rattle.sheet.specs.Sound.{SoundPlaces, SoundVector, SoundCommandAmong, SoundDecoded, SoundRead}
 use Rattle.sheet.specs.Read.{place_count, size_of, two_place_command, two_places_among, one_place_command, one_place_among, read_among, read_at}
@@ -102,8 +102,8 @@ read_sound n w s i =
     split P (ltb b 6) _ _ (λ l. two_sound n w (length s) i m b (i + size_of w b) t z (omega (arith, size_three w b (ltb-true b 6 l))) p) λ l.
     one_sound n w (length s) i m b (i + size_of w b) t z (get_or s (i + 1) 0) (λ e. omega (arith, size_key w b (ltb-false b 6 l) e))
 
-pub got_sound : (w : ℕ) (s : List ℕ) (i : ℕ) {d : Decoded} → read_at w s i ≡ Got d → SoundDecoded w (length s) i d
+pub got_sound : (w : ℕ) (s : List ℕ) (i : ℕ) {d : Decoded} → read_at w s i ≡ Ok (Some d) → SoundDecoded w (length s) i d
 got_sound w s i e = subst (SoundRead place_count w (length s) i) e (read_sound place_count w s i)
 
-pub fault_inside : (w : ℕ) (s : List ℕ) (i : ℕ) {r : Refusal} → read_at w s i ≡ Fault r → i < length s
+pub fault_inside : (w : ℕ) (s : List ℕ) (i : ℕ) {r : Refusal} → read_at w s i ≡ Err r → i < length s
 fault_inside w s i e = subst (SoundRead place_count w (length s) i) e (read_sound place_count w s i)

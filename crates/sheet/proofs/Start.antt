@@ -1,5 +1,6 @@
 -- The offsets of a sheet's commands: they lie in the sheet; from each on, and from the sheet's end, the commands that remain are the sheet's last ones; and
 -- the offsets that a run from 0 reaches are these.
+use Rattle.std.specs.Prelude.{Ok, Err, Some, None}
 use mathlib.Core.Path.{◌≡◌, refl, sym, ap, subst, ◌∙◌}
 use mathlib.Core.Bool.{true, ◌||◌, false≢true}
 use mathlib.Core.List.{List, [], ◌∷◌, ◌++◌, append-nil}
@@ -11,9 +12,7 @@ use lib.Dec.{eqb}
 use lib.ListN.{length, get_or, get_or-eq_default}
 use Rattle.answer.proofs.Tests.{decide, either, or_left, or_right}
 use Rattle.invertible.specs.Invertible.{Each, none, more}
-use Rattle.sheet.specs.declared.Read.{Read}
-use Rattle.sheet.specs.declared.Read.TheVariants.{Got, Fault, End}
-use Rattle.sheet.specs.Read.{place_count, read_at}
+use Rattle.sheet.specs.Read.{Read, place_count, read_at}
 use Rattle.sheet.specs.Sheet.{Sound, Plan, behind, continue, scan_from, plan_of}
 use Rattle.sheet.specs.Sound.{SoundRead}
 use Rattle.sheet.specs.Enough.{PlanFrom, at_command, at_fault, at_end}
@@ -43,9 +42,9 @@ below_at (more p hs) (suc k) d h = below_at hs k d (omega arith)
 module _ (w : ℕ) (s : List ℕ) where
   inside_with : (r : Read) (i : ℕ) (F : ℕ → Plan) → SoundRead place_count w (length s) i r → ((j : ℕ) → Each (λ j. j < length s) (F j).offsets)
       → Each (λ j. j < length s) (continue r i F).offsets
-  inside_with (Got d) i F h k = more {a = i} (omega (arith, h.on, h.within)) (k d.next)
-  inside_with (Fault r) i F h k = none
-  inside_with End i F h k = none
+  inside_with (Ok (Some d)) i F h k = more {a = i} (omega (arith, h.on, h.within)) (k d.next)
+  inside_with (Err r) i F h k = none
+  inside_with (Ok None) i F h k = none
 
   inside : (f i : ℕ) → Each (λ j. j < length s) (scan_from f w s i).offsets
   inside zero i = none

@@ -1,4 +1,5 @@
 -- The effect of a command is undone by the effect of the command that undoes it, and so is a run's.
+use Rattle.std.specs.Prelude.{Ok, Err, Some, None}
 use mathlib.Core.Path.{◌≡◌, refl, sym, ap, ◌∙◌}
 use mathlib.Core.List.{List, [], reverse, reverse-reverse}
 use Prim.Native.Nat.{ℕ, ◌<◌}
@@ -17,9 +18,7 @@ use Rattle.quasigroup.proofs.InBytes.{vector_at_lem}
 use Rattle.sheet.specs.declared.Places.{Places}
 use Rattle.sheet.specs.declared.Command.{Command}
 use Rattle.sheet.specs.declared.Command.TheVariants.{Lmul, Rmul, Ldiv, Rdiv, Swap, Flip, Kmul, Kdiv}
-use Rattle.sheet.specs.declared.Read.{Read}
-use Rattle.sheet.specs.declared.Read.TheVariants.{Got, Fault, End}
-use Rattle.sheet.specs.Read.{read_among}
+use Rattle.sheet.specs.Read.{Read, read_among}
 use Rattle.sheet.specs.Sheet.{plan_among}
 use Rattle.sheet.specs.Effect.{at, vector_at, effect, undone}
 use Rattle.invertible.specs.RoundTrip.{Direction, Forward, Backward, other}
@@ -123,19 +122,19 @@ module _ (w : ℕ) (hw : Bytewise w) (s : List ℕ) (hs : Bytes s) where
 
   with_state : {n : ℕ} {v : List (List ℕ)} → State n w v → (g : Direction) (i : ℕ) (r : Read) → SoundRead n w (length s) i r
       → State n w (step_with g w s r v)
-  with_state st Forward i (Got d) h = effect_state st d.command h.sound
-  with_state {n} st Backward i (Got d) h = effect_state st (undone d.command) (sound_undone n w (length s) d.command h.sound)
-  with_state st g i (Fault r) h = st
-  with_state st g i End h = st
+  with_state st Forward i (Ok (Some d)) h = effect_state st d.command h.sound
+  with_state {n} st Backward i (Ok (Some d)) h = effect_state st (undone d.command) (sound_undone n w (length s) d.command h.sound)
+  with_state st g i (Err r) h = st
+  with_state st g i (Ok None) h = st
 
   with_back : {n : ℕ} {v : List (List ℕ)} → State n w v → (g : Direction) (i : ℕ) (r : Read) → SoundRead n w (length s) i r
       → step_with (other g) w s r (step_with g w s r v) ≡ v
-  with_back st Forward i (Got d) h = effect_back st d.command h.sound
-  with_back {n} st Backward i (Got d) h =
+  with_back st Forward i (Ok (Some d)) h = effect_back st d.command h.sound
+  with_back {n} st Backward i (Ok (Some d)) h =
       let c = d.command in
       rw (undone_undone c) at (effect_back st (undone c) (sound_undone n w (length s) c h.sound))
-  with_back st g i (Fault r) h = refl
-  with_back st g i End h = refl
+  with_back st g i (Err r) h = refl
+  with_back st g i (Ok None) h = refl
 
   -- the step at an offset can be taken back
   pub invertible : (n : ℕ) (g : Direction) → Invertible (λ (i : ℕ). Unit {0}) (State n w) (step_among n g w s) (step_among n (other g) w s)

@@ -1,8 +1,6 @@
 -- Document 02, Paper 5: the state of a forward run after some of its commands, from any offset of its sheet on.
-use Rattle.std.specs.Prelude.{List, ℕ, zero, suc, ◌+◌, length}
-use Rattle.sheet.specs.declared.Read.{Read}
-use Rattle.sheet.specs.declared.Read.TheVariants.{Got, Fault, End}
-use Rattle.sheet.specs.Read.{read_at}
+use Rattle.std.specs.Prelude.{List, ℕ, zero, suc, ◌+◌, length, Ok, Err, Some, None}
+use Rattle.sheet.specs.Read.{Read, read_at}
 use Rattle.sheet.specs.Sheet.{scan_from}
 use Rattle.sheet.specs.Effect.{effect}
 
@@ -21,9 +19,9 @@ starting_at i v = run_state i 0 v
 
 -- one command more, by what stands at the offset that was reached; where none does, the state stays
 abbrev pub advanced : ℕ → List ℕ → Read → RunState → RunState
-advanced w s (Got d) p = run_state d.next (p.units + d.units) (effect w s d.command p.vectors)
-advanced w s (Fault r) p = p
-advanced w s End p = p
+advanced w s (Ok (Some d)) p = run_state d.next (p.units + d.units) (effect w s d.command p.vectors)
+advanced w s (Err r) p = p
+advanced w s (Ok None) p = p
 
 -- the state after k commands more of the sheet s, at width w, or after those that come before its end or its first fault if they are fewer
 abbrev pub state_after : ℕ → ℕ → List ℕ → RunState → RunState

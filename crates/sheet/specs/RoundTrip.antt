@@ -1,6 +1,6 @@
 -- Document 01, "The load sheet", demand 3: a list of runs over the same lent bytes, and the way home.
 use Rattle.std.specs.Prelude.{List, ℕ}
-use Rattle.answer.specs.declared.Answer.{Answer}
+use Rattle.answer.specs.Answer.{Answer}
 use Rattle.invertible.specs.Invertible.{Each}
 use Rattle.invertible.specs.RoundTrip.{Direction, other, RoundTrip}
 use Rattle.memory.specs.Bytes.{Bytes}

@@ -1,16 +1,13 @@
 -- Document 01, "The load sheet" and "What each operation refuses": a run of a sheet, forward or backward, over lent bytes. Document
 -- 02, Paper 8: over the number n of places, and at eight.
-use Rattle.std.specs.Prelude.{List, [], ◌∷◌, ◌++◌, reverse, ℕ, zero, suc, ◌+◌, ◌*◌, ◌/◌, eqb, length}
-use Rattle.answer.specs.declared.Answer.{Answer}
-use Rattle.answer.specs.declared.Answer.TheVariants.{Done}
+use Rattle.std.specs.Prelude.{List, [], ◌∷◌, ◌++◌, reverse, ℕ, zero, suc, ◌+◌, ◌*◌, ◌/◌, eqb, length, Ok, Err, Some, None}
+use Rattle.answer.specs.Answer.{Answer}
 use Rattle.answer.specs.Refuse.{outcome}
 use Rattle.invertible.specs.Invertible.{stepped}
 use Rattle.invertible.specs.RoundTrip.{Direction, Forward, Backward}
 use Rattle.memory.specs.Bytes.{bytes_of}
 use Rattle.sheet.specs.declared.Command.{Command}
-use Rattle.sheet.specs.declared.Read.{Read}
-use Rattle.sheet.specs.declared.Read.TheVariants.{Got, Fault, End}
-use Rattle.sheet.specs.Read.{place_count, read_among}
+use Rattle.sheet.specs.Read.{Read, place_count, read_among}
 use Rattle.sheet.specs.Sheet.{plan_among}
 use Rattle.sheet.specs.Effect.{vector_at, effect, undone}
 use Rattle.sheet.specs.Work.{total_units_among}
@@ -28,9 +25,9 @@ order Backward l = reverse l
 
 -- the vectors v after what stands at an offset
 abbrev pub step_with : Direction → ℕ → List ℕ → Read → List (List ℕ) → List (List ℕ)
-step_with g w s (Got d) v = effect w s (turned g d.command) v
-step_with g w s (Fault r) v = v
-step_with g w s End v = v
+step_with g w s (Ok (Some d)) v = effect w s (turned g d.command) v
+step_with g w s (Err r) v = v
+step_with g w s (Ok None) v = v
 
 abbrev pub step_among : ℕ → Direction → ℕ → List ℕ → ℕ → List (List ℕ) → List (List ℕ)
 step_among n g w s i v = step_with g w s (read_among n w s i) v
@@ -54,7 +51,7 @@ run_vectors_among n g w s v = steps_among n g w s (order g (plan_among n w s).of
 
 -- A run at width w of the sheet s over the lent bytes b. Its answer: 5; 6, the vectors are not n * w bytes; 7 to 11; or the work done, in units
 abbrev pub run_answer_among : ℕ → ℕ → List ℕ → List ℕ → Answer
-run_answer_among n w s b = sheet_answer_among n w (eqb (length b) (n * w)) s (Done (total_units_among n w s (plan_among n w s).offsets))
+run_answer_among n w s b = sheet_answer_among n w (eqb (length b) (n * w)) s (Ok (total_units_among n w s (plan_among n w s).offsets))
 
 -- .. and the bytes afterwards: a refused run moves nothing
 abbrev pub run_bytes_among : ℕ → Direction → ℕ → List ℕ → List ℕ → List ℕ

@@ -1,10 +1,8 @@
 -- Document 01, "The load sheet": a whole sheet, command by command, over the number n of places.
-use Rattle.std.specs.Prelude.{cond, List, [], ◌∷◌, ℕ, zero, suc, ltb, length}
+use Rattle.std.specs.Prelude.{cond, List, [], ◌∷◌, ℕ, zero, suc, ltb, length, Ok, Err, Some, None}
 use Rattle.answer.specs.declared.Refusal.{Refusal}
 use Rattle.answer.specs.declared.Refusal.TheVariants.{Sheet}
-use Rattle.sheet.specs.declared.Read.{Read}
-use Rattle.sheet.specs.declared.Read.TheVariants.{Got, Fault, End}
-use Rattle.sheet.specs.Read.{place_count, read_among}
+use Rattle.sheet.specs.Read.{Read, place_count, read_among}
 
 -- every command is sound, or there is a first fault: its refusal, and the offset of the faulty command's first byte
 pub data Outcome : Type 0 where
@@ -24,9 +22,9 @@ behind i p = record { offsets = i ∷ p.offsets; outcome = p.outcome }
 
 -- with what stands at offset i, and the rest of the plan from the offset behind it
 abbrev pub continue : Read → ℕ → (ℕ → Plan) → Plan
-continue (Got d) i rest = behind i (rest d.next)
-continue (Fault r) i rest = refused r i
-continue End i rest = record { offsets = []; outcome = Sound }
+continue (Ok (Some d)) i rest = behind i (rest d.next)
+continue (Err r) i rest = refused r i
+continue (Ok None) i rest = record { offsets = []; outcome = Sound }
 
 -- the plan from offset i on, in at most f steps. A command takes at least two bytes, so `length s` steps are enough, and a scan of as many never ends
 -- for lack of them: the law is `StepsEnough`, in Enough.antt.

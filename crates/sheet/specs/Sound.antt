@@ -1,13 +1,11 @@
 -- What holds of a command that was read: its places are places, its K lies in the sheet, and it has bytes enough for its units. Of contracts, only
 -- those of functions inside the kit cite this. n is the number of places; `SoundCommand` and `SoundDecoded` are at eight.
-use Rattle.std.specs.Prelude.{◌≡◌, ℕ, ◌+◌, ◌*◌, ◌≤◌, ◌<◌}
-use Rattle.sheet.specs.Read.{place_count}
+use Rattle.std.specs.Prelude.{◌≡◌, ℕ, ◌+◌, ◌*◌, ◌≤◌, ◌<◌, Ok, Err, Some, None}
+use Rattle.sheet.specs.Read.{place_count, Read}
 use Rattle.sheet.specs.declared.Places.{Places}
 use Rattle.sheet.specs.declared.Command.{Command}
 use Rattle.sheet.specs.declared.Command.TheVariants.{Lmul, Rmul, Ldiv, Rdiv, Swap, Flip, Kmul, Kdiv}
 use Rattle.sheet.specs.declared.Decoded.{Decoded}
-use Rattle.sheet.specs.declared.Read.{Read}
-use Rattle.sheet.specs.declared.Read.TheVariants.{Got, Fault, End}
 
 pub record SoundPlaces (n : ℕ) (p : Places) : Type 0 where
   pub first : p.d < n
@@ -46,6 +44,6 @@ SoundDecoded w m i d = SoundDecodedAmong place_count w m i d
 
 -- of what was read at offset i
 abbrev pub SoundRead : ℕ → ℕ → ℕ → ℕ → Read → Type 0
-SoundRead n w m i (Got d) = SoundDecodedAmong n w m i d
-SoundRead n w m i (Fault r) = i < m
-SoundRead n w m i End = m ≤ i
+SoundRead n w m i (Ok (Some d)) = SoundDecodedAmong n w m i d
+SoundRead n w m i (Err r) = i < m
+SoundRead n w m i (Ok None) = m ≤ i

@@ -1,7 +1,6 @@
 -- Document 02, Paper 5: where a slice, a run from an offset on, may start.
-use Rattle.std.specs.Prelude.{Bool, false, ◌||◌, List, [], ◌∷◌, ℕ, eqb, length}
-use Rattle.answer.specs.declared.Answer.{Answer}
-use Rattle.answer.specs.declared.Answer.TheVariants.{Done, Refused}
+use Rattle.std.specs.Prelude.{Bool, false, ◌||◌, List, [], ◌∷◌, ℕ, eqb, length, Ok, Err}
+use Rattle.answer.specs.Answer.{Answer, refused_at}
 use Rattle.answer.specs.declared.Refusal.TheVariants.{Start}
 use Rattle.answer.specs.Refuse.{unless}
 use Rattle.sheet.specs.Sheet.{plan_of}
@@ -17,5 +16,5 @@ is_start w s i = among i (plan_of w s).offsets || eqb i (length s)
 
 -- behind the answer of a test: where that is a refusal it stays; then 14, there is no start
 abbrev pub then_start : Bool → Answer → Answer
-then_start start (Done n) = unless start Start (Done n)
-then_start start (Refused r at) = Refused r at
+then_start start (Ok n) = unless start Start (Ok n)
+then_start start (Err err) = Err err

@@ -1,7 +1,7 @@
 // Load sheets: definitions in specs/, laws in proofs/, and the types that definitions speak of. Crate reader has the code that reads.
 #![tactic(auto)]
 
-use answer::Refusal;
+use answer::{Refusal, Refused};
 
 // The number of vectors that a sheet's commands work on.
 pub const PLACES: usize = 8;
@@ -40,17 +40,15 @@ pub struct Decoded {
     pub units: usize,
 }
 
-// What stands at an offset of a sheet: a command, a fault, or the sheet's end.
+// What stands at an offset of a sheet: a command, nothing at the sheet's end, or a fault.
+pub type Read = Result<Option<Decoded>, Refusal>;
+
+// The commands of a sheet without fault, counted, and their units.
 #[derive(Clone, Copy)]
-pub enum Read {
-    Got(Decoded),
-    Fault(Refusal),
-    End,
+pub struct Counts {
+    pub commands: usize,
+    pub units: usize,
 }
 
-// What the check of a whole sheet finds: the number of commands and then their units, or the first fault and its command's offset.
-#[derive(Clone, Copy)]
-pub enum Summary {
-    Whole(usize, usize),
-    Faulty(Refusal, u32),
-}
+// What the check of a whole sheet finds: its counts, or the first fault and its command's offset.
+pub type Summary = Result<Counts, Refused>;

@@ -1,4 +1,5 @@
 -- What a success writes, and either way after the other.
+use Rattle.std.specs.Prelude.{Ok}
 use mathlib.Core.Path.{◌≡◌, refl, ap, ap₂, ◌∙◌}
 use mathlib.Core.Bool.{true}
 use mathlib.Core.List.{List, [], ◌++◌}
@@ -9,8 +10,7 @@ use borrow.Author.Tests.{eqb-true, leb-true, eq-eqb, le-leb}
 use lib.Dec.{eqb, leb}
 use lib.ListN.{length, take, drop, length-append, length-drop}
 use lib.Seq.{take_at, drop_at, take-length}
-use Rattle.answer.specs.declared.Answer.{Answer}
-use Rattle.answer.specs.declared.Answer.TheVariants.{Done}
+use Rattle.answer.specs.Answer.{Answer}
 use Rattle.answer.specs.declared.Refusal.TheVariants.{Width, Records, Output}
 use Rattle.answer.specs.Refuse.{is_done, outcome}
 use Rattle.answer.proofs.Refuse.{unless_done}
@@ -22,7 +22,7 @@ use Rattle.shuffle.proofs.Widths.{sized, records_within, records_whole, shuffled
 
 -- ---- the answer by the tests
 
-pub accepted : (w m n : ℕ) → known_width w ≡ true → m % record_length w ≡ 0 → m ≤ n → records_answer w m n ≡ Done m
+pub accepted : (w m n : ℕ) → known_width w ≡ true → m % record_length w ≡ 0 → m ≤ n → records_answer w m n ≡ Ok m
 accepted w m n k h g = rw (k, eq-eqb (m % record_length w) 0 h, le-leb m n g) refl
 
 -- what a success knows of its arguments
@@ -30,7 +30,7 @@ pub record Accepted (w m n : ℕ) : Type 0 where
   pub known : known_width w ≡ true
   pub whole : m % record_length w ≡ 0
   pub room : m ≤ n
-  pub answer : records_answer w m n ≡ Done m
+  pub answer : records_answer w m n ≡ Ok m
 
 pub success : (w m n : ℕ) → is_done (records_answer w m n) ≡ true → Accepted w m n
 success w m n d =

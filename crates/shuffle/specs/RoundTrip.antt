@@ -1,7 +1,6 @@
 -- Document 02, Paper 13: what a success writes, no records, records cut between two of them, and that either way after the other, at one width, returns the
 -- bytes given. The statements; proofs/RoundTrip.antt shows them.
-use Rattle.std.specs.Prelude.{◌≡◌, true, List, [], ◌++◌, ℕ, ◌%◌, length, take, drop}
-use Rattle.answer.specs.declared.Answer.TheVariants.{Done}
+use Rattle.std.specs.Prelude.{◌≡◌, true, List, [], ◌++◌, ℕ, ◌%◌, length, take, drop, Ok}
 use Rattle.answer.specs.Refuse.{is_done, outcome}
 use Rattle.quasigroup.specs.Tables.{known_width}
 use Rattle.shuffle.specs.Shuffle.{record_length, shuffled_record, unshuffled_record, all_records, records_answer, records_out}
@@ -10,14 +9,14 @@ use Rattle.shuffle.specs.Shuffle.{record_length, shuffled_record, unshuffled_rec
 
 -- A success answers the length written, which is that of the records; what f makes of them stands in the first bytes, and each byte behind stays in its place
 pub record Written (f : ℕ → List ℕ → List ℕ) (w : ℕ) (s out : List ℕ) : Type 0 where
-  pub answer : records_answer w (length s) (length out) ≡ Done (length s)
+  pub answer : records_answer w (length s) (length out) ≡ Ok (length s)
   pub size : length (records_out f w s out) ≡ length out
   pub first : take (length s) (records_out f w s out) ≡ all_records f w s
   pub behind : drop (length s) (records_out f w s out) ≡ drop (length s) out
 
 -- no records is fine: the answer is 0, and nothing is written
 pub record NothingWritten (f : ℕ → List ℕ → List ℕ) (w : ℕ) (out : List ℕ) : Type 0 where
-  pub answer : records_answer w 0 (length out) ≡ Done 0
+  pub answer : records_answer w 0 (length out) ≡ Ok 0
   pub bytes : records_out f w [] out ≡ out
 
 -- each record is written by itself, so that records may be cut between two of them

@@ -1,7 +1,6 @@
 -- Document 02, Paper 13: records laid out for the archive, which compression filters call a byte shuffle, and the way back.
-use Rattle.std.specs.Prelude.{List, [], ◌++◌, ℕ, zero, suc, ◌*◌, ◌/◌, ◌%◌, eqb, leb, length, take, drop}
-use Rattle.answer.specs.declared.Answer.{Answer}
-use Rattle.answer.specs.declared.Answer.TheVariants.{Done}
+use Rattle.std.specs.Prelude.{List, [], ◌++◌, ℕ, zero, suc, ◌*◌, ◌/◌, ◌%◌, eqb, leb, length, take, drop, Ok}
+use Rattle.answer.specs.Answer.{Answer}
 use Rattle.answer.specs.declared.Refusal.TheVariants.{Width, Records, Output}
 use Rattle.answer.specs.Refuse.{unless, outcome}
 use Rattle.quasigroup.specs.Tables.{known_width}
@@ -46,7 +45,7 @@ records_answer w m n =
     unless (known_width w) Width
     (unless (eqb (m % record_length w) 0) Records
     (unless (leb m n) Output
-    (Done m)))
+    (Ok m)))
 
 -- The output after a call that writes what f makes of each record of s: that in its first bytes and those behind as they were, or, after a refusal, all
 -- as it was

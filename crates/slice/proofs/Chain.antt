@@ -1,4 +1,5 @@
 -- Chains of slices, and their way home.
+use Rattle.std.specs.Prelude.{Ok, Err}
 use mathlib.Core.Path.{◌≡◌, refl, sym, ap, ap₂, subst, ◌∙◌}
 use mathlib.Core.Bool.{true, false, true≢false}
 use mathlib.Core.List.{List, [], ◌∷◌, sum}
@@ -7,8 +8,7 @@ use native.Mathlib.Nat.{zero-add, add-zero, add_assoc}
 use borrow.Author.Tests.{eq-eqb}
 use lib.Dec.{eqb}
 use lib.ListN.{length, get_or-eq_default}
-use Rattle.answer.specs.declared.Answer.{Answer}
-use Rattle.answer.specs.declared.Answer.TheVariants as Answers
+use Rattle.answer.specs.Answer.{Answer, refused_at}
 use Rattle.answer.specs.declared.Refusal.{Refusal}
 use Rattle.answer.specs.Refuse.{is_done, outcome}
 use Rattle.invertible.specs.Invertible.{stepped, outputs, Each, none, more}
@@ -28,7 +28,7 @@ use Rattle.sheet.proofs.SheetAnswer.{Passed, passes}
 use Rattle.sheet.proofs.Progress.{after_after, reaches}
 use Rattle.sheet.proofs.Start.{suffix, reached_start, first_start, end_only}
 use Rattle.sheet.proofs.FromStart.{state_after_lem, offset_by, end_units, end_vectors}
-use Rattle.slice.specs.declared.SliceAnswer.TheVariants.{Reached, Refused}
+use Rattle.slice.specs.SliceAnswer.{reaching}
 use Rattle.slice.specs.Slice.{sliced, slice_tests, reached_by, slice_bytes}
 use Rattle.slice.specs.Injective.{is_reached}
 use Rattle.slice.specs.Chain.{ChainState, chain_start, next_answer, linked, next_state, chain, total_budget, ReachesStart, refused, reached}
@@ -50,8 +50,8 @@ total_one k = total_more k [] ∙ ap (λ (n : ℕ). k + n) total_none ∙ add-ze
 
 -- ---- a refused slice, from any state of a chain
 
-module _ (w : ℕ) (s : List ℕ) (c : ChainState) (r : Refusal) (i : ℕ) (e : slice_tests w s c.offset c.bytes ≡ Answers.Refused r i) where
-  answer_refused : (k : ℕ) → next_answer w s k c ≡ Refused r i
+module _ (w : ℕ) (s : List ℕ) (c : ChainState) (r : Refusal) (i : ℕ) (e : slice_tests w s c.offset c.bytes ≡ refused_at r i) where
+  answer_refused : (k : ℕ) → next_answer w s k c ≡ refused_at r i
   answer_refused k = ap (λ (a : Answer). reached_by a (sliced k w s c.offset (vectors_in w c.bytes))) e
 
   state_refused : (k : ℕ) → next_state w s k c ≡ c
@@ -63,11 +63,11 @@ module _ (w : ℕ) (s : List ℕ) (c : ChainState) (r : Refusal) (i : ℕ) (e : 
   chain_refused [] = refl
   chain_refused (k ∷ l) = ap (stepped (next_state w s) l) (state_refused k) ∙ chain_refused l
 
-  answers_refused : (l : List ℕ) → Each (λ a. a ≡ Refused r i) (outputs (next_state w s) (next_answer w s) l c)
+  answers_refused : (l : List ℕ) → Each (λ a. a ≡ refused_at r i) (outputs (next_state w s) (next_answer w s) l c)
   answers_refused [] = none
   answers_refused (k ∷ l) =
       more (answer_refused k)
-      (subst (λ (c : ChainState). Each (λ a. a ≡ Refused r i) (outputs (next_state w s) (next_answer w s) l c)) (sym (state_refused k)) (answers_refused l))
+      (subst (λ (c : ChainState). Each (λ a. a ≡ refused_at r i) (outputs (next_state w s) (next_answer w s) l c)) (sym (state_refused k)) (answers_refused l))
 
   two_refused : (j k : ℕ) → TwoSlices w s j k c
   two_refused j k =
@@ -79,11 +79,11 @@ module _ (w : ℕ) (s : List ℕ) (c : ChainState) (r : Refusal) (i : ℕ) (e : 
 
 -- ---- one that is not, from offset i over the bytes b, with u units before it
 
-module _ (w : ℕ) (s : List ℕ) (hs : Bytes s) (i u : ℕ) (b : List ℕ) (hb : Bytes b) (n : ℕ) (e : slice_tests w s i b ≡ Answers.Done n) where
+module _ (w : ℕ) (s : List ℕ) (hs : Bytes s) (i u : ℕ) (b : List ℕ) (hb : Bytes b) (n : ℕ) (e : slice_tests w s i b ≡ Ok n) where
   passed : SlicePassed w s i b
   passed = tests_passed w s b i (ap is_done e)
 
-  whole : run_answer w s b ≡ Answers.Done n
+  whole : run_answer w s b ≡ Ok n
   whole = start_done (is_start w s i) (run_answer w s b) n e
 
   width : Bytewise w
@@ -108,13 +108,13 @@ module _ (w : ℕ) (s : List ℕ) (hs : Bytes s) (i u : ℕ) (b : List ℕ) (hb 
   abbrev as_chain : RunState → ChainState
   as_chain p = record { offset = p.offset; units = u + p.units; bytes = vector_bytes w p.vectors }
 
-  tests_done : (k : ℕ) → slice_tests w s (after k).offset (as_chain (after k)).bytes ≡ Answers.Done n
+  tests_done : (k : ℕ) → slice_tests w s (after k).offset (as_chain (after k)).bytes ≡ Ok n
   tests_done k =
       let same : length (vector_bytes w (after k).vectors) ≡ length b = state_length w width (after k).vectors (state k) ∙ sym passed.run.size in
-      let a = Answers.Done (total_units w s (plan_of w s).offsets) in
+      let a = Ok (total_units w s (plan_of w s).offsets) in
       ap (λ (m : ℕ). then_start (is_start w s (after k).offset) (sheet_answer w (eqb m (place_count * w)) s a)) same
       ∙ ap (then_start (is_start w s (after k).offset)) whole
-      ∙ ap (λ t. then_start t (Answers.Done n)) (start_at k)
+      ∙ ap (λ t. then_start t (Ok n)) (start_at k)
 
   module _ (k c : ℕ) where
     abbrev next : List (List ℕ) → RunState
@@ -126,10 +126,10 @@ module _ (w : ℕ) (s : List ℕ) (hs : Bytes s) (i u : ℕ) (b : List ℕ) (hb 
     both : joined (after k) (next (after k).vectors) ≡ after (k + c)
     both = joined_after c w s (after k) ∙ after_after w s k c (starting_at i v)
 
-    answer_done : next_answer w s c (as_chain (after k)) ≡ Reached (next (after k).vectors).offset (next (after k).vectors).units
+    answer_done : next_answer w s c (as_chain (after k)) ≡ Ok (reaching (next (after k).vectors).offset (next (after k).vectors).units)
     answer_done =
         ap (λ (a : Answer). reached_by a (next (vectors_in w (vector_bytes w (after k).vectors)))) (tests_done k)
-        ∙ ap (λ (v : List (List ℕ)). Reached (next v).offset (next v).units) lent
+        ∙ ap (λ (v : List (List ℕ)). Ok (reaching (next v).offset (next v).units)) lent
 
     bytes_done : slice_bytes c w s (after k).offset (as_chain (after k)).bytes ≡ vector_bytes w (next (after k).vectors).vectors
     bytes_done =
@@ -185,20 +185,20 @@ module _ (w : ℕ) (s : List ℕ) (hs : Bytes s) (i u : ℕ) (b : List ℕ) (hb 
 -- ---- two slices
 
 two_by : (w : ℕ) (s : List ℕ) (j k : ℕ) (c : ChainState) → Bytes s → Bytes c.bytes → (a : Answer) → slice_tests w s c.offset c.bytes ≡ a → TwoSlices w s j k c
-two_by w s j k c hs hb (Answers.Done n) e = two_done w s hs c.offset c.units c.bytes hb n e j k
-two_by w s j k c hs hb (Answers.Refused r i) e = two_refused w s c r i e j k
+two_by w s j k c hs hb (Ok n) e = two_done w s hs c.offset c.units c.bytes hb n e j k
+two_by w s j k c hs hb (Err err) e = two_refused w s c err.refusal err.offset e j k
 
 pub calls_compose : CallsCompose
 calls_compose w s j k c hs hb = two_by w s j k c hs hb (slice_tests w s c.offset c.bytes) refl
 
 -- ---- a chain of which the whole run is not refused
 
-module _ (w : ℕ) (s b : List ℕ) (hs : Bytes s) (hb : Bytes b) (n : ℕ) (e : run_answer w s b ≡ Answers.Done n) where
+module _ (w : ℕ) (s b : List ℕ) (hs : Bytes s) (hb : Bytes b) (n : ℕ) (e : run_answer w s b ≡ Ok n) where
   run : RunPassed w s b
   run = run_passed w s b (ap is_done e)
 
-  first : slice_tests w s 0 b ≡ Answers.Done n
-  first = ap (then_start (is_start w s 0)) e ∙ ap (λ t. then_start t (Answers.Done n)) (first_start w s run.sound)
+  first : slice_tests w s 0 b ≡ Ok n
+  first = ap (then_start (is_start w s 0)) e ∙ ap (λ t. then_start t (Ok n)) (first_start w s run.sound)
 
   abbrev offsets : List ℕ
   offsets = (plan_of w s).offsets
@@ -211,7 +211,7 @@ module _ (w : ℕ) (s b : List ℕ) (hs : Bytes s) (hb : Bytes b) (n : ℕ) (e :
     all_units =
         let fit = eqb (length b) (place_count * w) in
         let tests : Passed place_count w fit s = record { width = run.known; operands = eq-eqb (length b) (place_count * w) run.size; sheet = run.sound } in
-        let a : Answers.Done (total_units w s offsets) ≡ Answers.Done n = passes place_count w fit s _ tests ∙ e in
+        let a : Ok (total_units w s offsets) ≡ Ok n = passes place_count w fit s _ tests ∙ e in
         let t : total_units w s offsets ≡ n = cc in
         end_units w s (vectors_in w b) run.sound k all ∙ t
 
@@ -248,8 +248,8 @@ module _ (w : ℕ) (s b : List ℕ) (hs : Bytes s) (hb : Bytes b) (n : ℕ) (e :
 
 -- ---- a chain of which it is
 
-module _ (w : ℕ) (s b : List ℕ) (r : Refusal) (i : ℕ) (e : run_answer w s b ≡ Answers.Refused r i) where
-  first_refused : slice_tests w s 0 b ≡ Answers.Refused r i
+module _ (w : ℕ) (s b : List ℕ) (r : Refusal) (i : ℕ) (e : run_answer w s b ≡ refused_at r i) where
+  first_refused : slice_tests w s 0 b ≡ refused_at r i
   first_refused = ap (then_start (is_start w s 0)) e
 
   chain_stays : (l : List ℕ) → ChainRefused w s b l r i
@@ -268,7 +268,7 @@ chains_run =
 
 -- ---- the way home
 
-home_refused : (w : ℕ) (s b l : List ℕ) (r : Refusal) (i : ℕ) → run_answer w s b ≡ Answers.Refused r i → ChainReturns w s b l
+home_refused : (w : ℕ) (s b l : List ℕ) (r : Refusal) (i : ℕ) → run_answer w s b ≡ refused_at r i → ChainReturns w s b l
 home_refused w s b l r i e =
     let left : (chain w s l b).bytes ≡ b = ap (λ (c : ChainState). c.bytes) (chain_stays w s b r i e l).state in
     record {
@@ -277,17 +277,17 @@ home_refused w s b l r i e =
     }
 
 home_done : (w : ℕ) (s b l : List ℕ) → Bytes s → Bytes b → (chain w s l b).offset ≡ length s → (a : Answer) → run_answer w s b ≡ a → ChainReturns w s b l
-home_done w s b l hs hb h (Answers.Done n) e =
+home_done w s b l hs hb h (Ok n) e =
     let left : (chain w s l b).bytes ≡ run_bytes Forward w s b = (chain_done w s b hs hb n e l).bytes h in
     record {
       state = ap (run_bytes Backward w s) left ∙ there_and_back Forward w s hs b hb;
       same = ap (run_answer w s) left ∙ same_answer Forward w s hs b hb;
     }
-home_done w s b l hs hb h (Answers.Refused r i) e = home_refused w s b l r i e
+home_done w s b l hs hb h (Err err) e = home_refused w s b l err.refusal err.offset e
 
 home_by : (w : ℕ) (s b l : List ℕ) (a : Answer) → run_answer w s b ≡ a → is_done a ≡ false → ChainReturns w s b l
-home_by w s b l (Answers.Done n) e h = absurd (true≢false h)
-home_by w s b l (Answers.Refused r i) e h = home_refused w s b l r i e
+home_by w s b l (Ok n) e h = absurd (true≢false h)
+home_by w s b l (Err err) e h = home_refused w s b l err.refusal err.offset e
 
 pub chains_return : ChainsReturn
 chains_return =

@@ -1,4 +1,5 @@
 -- What one slice does, and two after each other.
+use Rattle.std.specs.Prelude.{Ok, Err}
 use mathlib.Core.Path.{◌≡◌, refl, sym, ap, ◌∙◌}
 use mathlib.Core.Bool.{true}
 use mathlib.Core.List.{List, []}
@@ -6,8 +7,7 @@ use Prim.Native.Nat.{ℕ, ◌+◌, min}
 use native.Mathlib.Nat.{zero-add, min-zero}
 use native.Mathlib.Omega.{arith}
 use lib.ListN.{length}
-use Rattle.answer.specs.declared.Answer.{Answer}
-use Rattle.answer.specs.declared.Answer.TheVariants.{Done, Refused}
+use Rattle.answer.specs.Answer.{Answer, refused_at}
 use Rattle.answer.specs.Refuse.{is_done, outcome}
 use Rattle.memory.specs.Bytes.{Bytes}
 use Rattle.quasigroup.proofs.Widths.{bytewise}
@@ -18,7 +18,7 @@ use Rattle.sheet.proofs.Lent.{bytes_vectors}
 use Rattle.sheet.proofs.Scan.{read_end}
 use Rattle.sheet.proofs.Progress.{as_many, after_after, after_from, done, reaches, remaining_end}
 use Rattle.sheet.proofs.Start.{suffix}
-use Rattle.slice.specs.declared.SliceAnswer.TheVariants.{Reached}
+use Rattle.slice.specs.SliceAnswer.{reaching}
 use Rattle.slice.specs.Slice.{sliced, slice_tests, reached_by}
 use Rattle.slice.specs.Exact.{SlicesExact, Still, StandsStill, joined, SlicesCompose}
 use Rattle.slice.proofs.Tests.{SlicePassed, tests_passed}
@@ -41,20 +41,20 @@ slices_exact k w s i v sound start =
 
 -- ---- nothing to do
 
-reached_done : (a : Answer) → is_done a ≡ true → (p : RunState) → reached_by a p ≡ Reached p.offset p.units
-reached_done (Done n) e p = refl
-reached_done (Refused r at) e p = let z : ◌≡◌ {A = ℕ} 0 1 = cc in absurd (omega arith)
+reached_done : (a : Answer) → is_done a ≡ true → (p : RunState) → reached_by a p ≡ Ok (reaching p.offset p.units)
+reached_done (Ok n) e p = refl
+reached_done (Err err) e p = let z : ◌≡◌ {A = ℕ} 0 1 = cc in absurd (omega arith)
 
 outcome_same : (a : Answer) (new old : List ℕ) → new ≡ old → outcome a new old ≡ old
-outcome_same (Done n) new old e = e
-outcome_same (Refused r at) new old e = refl
+outcome_same (Ok n) new old e = e
+outcome_same (Err err) new old e = refl
 
 still : (k w : ℕ) (s : List ℕ) (i : ℕ) (b : List ℕ) → Bytes b → is_done (slice_tests w s i b) ≡ true → sliced k w s i (vectors_in w b) ≡ starting_at i (vectors_in w b)
     → Still k w s i b
 still k w s i b hb d e =
     let p : SlicePassed w s i b = tests_passed w s b i d in
     record {
-      answer = reached_done (slice_tests w s i b) d (sliced k w s i (vectors_in w b)) ∙ ap (λ (p : RunState). Reached p.offset p.units) e;
+      answer = reached_done (slice_tests w s i b) d (sliced k w s i (vectors_in w b)) ∙ ap (λ (p : RunState). Ok (reaching p.offset p.units)) e;
       bytes =
           outcome_same (slice_tests w s i b) (vector_bytes w (sliced k w s i (vectors_in w b)).vectors) b
           (ap (λ (p : RunState). vector_bytes w p.vectors) e ∙ bytes_vectors w (bytewise w p.run.known) b hb place_count p.run.size);

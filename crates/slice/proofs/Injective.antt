@@ -1,12 +1,12 @@
 -- A slice's number tells its answer.
+use Rattle.std.specs.Prelude.{Ok, Err}
 use mathlib.Core.Path.{◌≡◌, refl, sym, ap, ap₂, subst, ◌∙◌}
 use mathlib.Core.List.{List}
 use Prim.Native.Nat.{ℕ, ◌/◌, ◌%◌, ◌^◌, ◌≤◌, min}
 use native.Mathlib.Omega.{arith}
 use lib.Dec.{ltb}
 use lib.ListN.{length}
-use Rattle.answer.specs.declared.Answer.{Answer}
-use Rattle.answer.specs.declared.Answer.TheVariants as Answers
+use Rattle.answer.specs.Answer.{Answer, refused_at}
 use Rattle.answer.specs.Injective.{Fits}
 use Rattle.answer.proofs.Injective.{numbers_injective}
 use Rattle.quasigroup.proofs.Widths.{of_known}
@@ -16,8 +16,7 @@ use Rattle.sheet.proofs.Checked.{sound_short}
 use Rattle.sheet.proofs.Fitting.{run_fits}
 use Rattle.sheet.proofs.Progress.{within_after}
 use Rattle.sheet.proofs.Start.{suffix}
-use Rattle.slice.specs.declared.SliceAnswer.{SliceAnswer}
-use Rattle.slice.specs.declared.SliceAnswer.TheVariants.{Reached, Refused}
+use Rattle.slice.specs.SliceAnswer.{SliceAnswer, reaching}
 use Rattle.slice.specs.Slice.{sliced, reached_by}
 use Rattle.slice.specs.Number.{answer_of, slice_number}
 use Rattle.slice.specs.Injective.{is_reached, SliceFits, EverySliceFits, SliceNumbersInjective}
@@ -43,24 +42,24 @@ every_slice_fits k w s i b =
 
 -- ---- and is found again from its number
 
-module _ (offset units : ℕ) (h : SliceFits (Reached offset units)) where
-  units_again : slice_number (Reached offset units) / 2 ^ 16 ≡ units
+module _ (offset units : ℕ) (h : SliceFits (Ok (reaching offset units))) where
+  units_again : slice_number (Ok (reaching offset units)) / 2 ^ 16 ≡ units
   units_again = omega arith
 
-  offset_again : slice_number (Reached offset units) % 2 ^ 16 ≡ offset
+  offset_again : slice_number (Ok (reaching offset units)) % 2 ^ 16 ≡ offset
   offset_again = omega arith
 
 abbrev again : Answer → SliceAnswer
-again (Answers.Done n) = Reached (n % 2 ^ 16) (n / 2 ^ 16)
-again (Answers.Refused r at) = Refused r at
+again (Ok n) = Ok (reaching (n % 2 ^ 16) (n / 2 ^ 16))
+again (Err err) = Err err
 
 found : (a : SliceAnswer) → SliceFits a → again (answer_of a) ≡ a
-found (Reached offset units) h = ap₂ {C = SliceAnswer} Reached (offset_again offset units h) (units_again offset units h)
-found (Refused r at) h = refl
+found (Ok p) h = ap₂ {C = SliceAnswer} (λ o u. Ok (reaching o u)) (offset_again p.offset p.units h) (units_again p.offset p.units h)
+found (Err err) h = refl
 
 fits_answer : (a : SliceAnswer) → SliceFits a → Fits (2 ^ 32) (answer_of a)
-fits_answer (Reached offset units) h = omega (arith, h.0, h.1)
-fits_answer (Refused r at) h = h
+fits_answer (Ok p) h = omega (arith, h.0, h.1)
+fits_answer (Err err) h = h
 
 one : (a b : SliceAnswer) → SliceFits a → SliceFits b → slice_number a ≡ slice_number b → a ≡ b
 one a b h k e =
@@ -69,8 +68,8 @@ one a b h k e =
     ∙ found b k
 
 refusal : (a : SliceAnswer) → SliceFits a → is_reached a ≡ ltb (slice_number a) (2 ^ 32)
-refusal (Reached offset units) h = numbers_injective.plain.refusal (answer_of (Reached offset units)) (fits_answer (Reached offset units) h)
-refusal (Refused r at) h = numbers_injective.plain.refusal (answer_of (Refused r at)) h
+refusal (Ok p) h = numbers_injective.plain.refusal (answer_of (Ok p)) (fits_answer (Ok p) h)
+refusal (Err err) h = numbers_injective.plain.refusal (answer_of (Err err)) h
 
 pub slice_numbers_injective : SliceNumbersInjective
 slice_numbers_injective = record { answer = one; refusal = refusal; units = units_again; offset = offset_again }

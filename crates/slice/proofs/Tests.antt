@@ -1,4 +1,5 @@
 -- The tests of a slice, in their order.
+use Rattle.std.specs.Prelude.{Ok, Err}
 use mathlib.Core.Path.{◌≡◌, refl, ap}
 use mathlib.Core.Bool.{Bool, true, false, false≢true}
 use mathlib.Core.List.{List}
@@ -7,8 +8,7 @@ use native.Mathlib.Omega.{arith}
 use borrow.Author.Tests.{eqb-true}
 use lib.Dec.{eqb}
 use lib.ListN.{length}
-use Rattle.answer.specs.declared.Answer.{Answer}
-use Rattle.answer.specs.declared.Answer.TheVariants.{Done, Refused}
+use Rattle.answer.specs.Answer.{Answer, refused_at}
 use Rattle.answer.specs.declared.Refusal.{Refusal}
 use Rattle.answer.specs.declared.Refusal.TheVariants.{Start}
 use Rattle.answer.specs.Refuse.{is_done}
@@ -21,17 +21,17 @@ use Rattle.sheet.proofs.SheetAnswer.{done_passed}
 use Rattle.slice.specs.Slice.{slice_tests}
 
 -- what holds of each refusal under its condition, and of the run's success where there is a start, holds of the tests
-start_cases : (P : Answer → Type 0) (t : Bool) (a : Answer) → ((r : Refusal) (at : ℕ) → a ≡ Refused r at → P (Refused r at)) → P (Refused Start 0)
-    → ((n : ℕ) → a ≡ Done n → t ≡ true → P (Done n)) → P (then_start t a)
-start_cases P true (Done n) f g h = h n refl refl
-start_cases P false (Done n) f g h = g
-start_cases P t (Refused r at) f g h = f r at refl
+start_cases : (P : Answer → Type 0) (t : Bool) (a : Answer) → ((r : Refusal) (at : ℕ) → a ≡ refused_at r at → P (refused_at r at)) → P (refused_at Start 0)
+    → ((n : ℕ) → a ≡ Ok n → t ≡ true → P (Ok n)) → P (then_start t a)
+start_cases P true (Ok n) f g h = h n refl refl
+start_cases P false (Ok n) f g h = g
+start_cases P t (Err err) f g h = f err.refusal err.offset refl
 
 -- a success of the tests is the run's
-pub start_done : (t : Bool) (a : Answer) (n : ℕ) → then_start t a ≡ Done n → a ≡ Done n
-start_done true (Done m) n e = e
-start_done false (Done m) n e = let z : ◌≡◌ {A = ℕ} 0 1 = cc in absurd (omega arith)
-start_done t (Refused r at) n e = e
+pub start_done : (t : Bool) (a : Answer) (n : ℕ) → then_start t a ≡ Ok n → a ≡ Ok n
+start_done true (Ok m) n e = e
+start_done false (Ok m) n e = let z : ◌≡◌ {A = ℕ} 0 1 = cc in absurd (omega arith)
+start_done t (Err err) n e = e
 
 -- what is known behind the tests of a run, and of a slice
 pub record RunPassed (w : ℕ) (s b : List ℕ) : Type 0 where
@@ -51,8 +51,8 @@ module _ (w : ℕ) (s b : List ℕ) where
       record { known = p.width; size = eqb-true (length b) (place_count * w) p.operands; sound = p.sheet }
 
   module _ (i : ℕ) where
-    pub by_tests : (P : Answer → Type 0) → ((r : Refusal) (at : ℕ) → run_answer w s b ≡ Refused r at → P (Refused r at)) → P (Refused Start 0)
-        → (SlicePassed w s i b → (n : ℕ) → P (Done n)) → P (slice_tests w s i b)
+    pub by_tests : (P : Answer → Type 0) → ((r : Refusal) (at : ℕ) → run_answer w s b ≡ refused_at r at → P (refused_at r at)) → P (refused_at Start 0)
+        → (SlicePassed w s i b → (n : ℕ) → P (Ok n)) → P (slice_tests w s i b)
     by_tests P f g h = start_cases P (is_start w s i) (run_answer w s b) f g (λ n e t. h (record { run = run_passed (ap is_done e); start = t }) n)
 
     pub tests_passed : is_done (slice_tests w s i b) ≡ true → SlicePassed w s i b

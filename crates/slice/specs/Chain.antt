@@ -1,8 +1,8 @@
 -- Document 02, Paper 5: a chain of slices over one sheet at one width, from offset 0 on, each at the offset that the one before reached and with the vectors
 -- that it left. The statements are at the end; proofs/Chain.antt shows them.
-use Rattle.std.specs.Prelude.{◌≡◌, true, false, ℕ, ◌+◌, ◌≤◌, length}
+use Rattle.std.specs.Prelude.{◌≡◌, true, false, ℕ, ◌+◌, ◌≤◌, length, Ok, Err}
 use mathlib.Core.List.{List, [], ◌∷◌, sum}
-use Rattle.answer.specs.declared.Answer.TheVariants as Answers
+use Rattle.answer.specs.Answer.{refused_at}
 use Rattle.answer.specs.declared.Refusal.{Refusal}
 use Rattle.answer.specs.Refuse.{is_done}
 use Rattle.invertible.specs.Invertible.{stepped, outputs, Each}
@@ -11,8 +11,7 @@ use Rattle.memory.specs.Bytes.{Bytes}
 use Rattle.sheet.specs.Sheet.{command_count}
 use Rattle.sheet.specs.Run.{run_answer, run_bytes}
 use Rattle.sheet.specs.Start.{is_start}
-use Rattle.slice.specs.declared.SliceAnswer.{SliceAnswer}
-use Rattle.slice.specs.declared.SliceAnswer.TheVariants.{Reached, Refused}
+use Rattle.slice.specs.SliceAnswer.{SliceAnswer, reaching}
 use Rattle.slice.specs.Slice.{slice_answer, slice_bytes}
 use Rattle.slice.specs.Injective.{is_reached}
 
@@ -31,8 +30,8 @@ next_answer w s k c = slice_answer k w s c.offset c.bytes
 
 -- .. and the state after it, with the bytes b that it left: a refused slice tells no offset, so that the next one starts where it did
 abbrev pub linked : SliceAnswer → List ℕ → ChainState → ChainState
-linked (Reached offset units) b c = record { offset = offset; units = c.units + units; bytes = b }
-linked (Refused r at) b c = record { offset = c.offset; units = c.units; bytes = b }
+linked (Ok p) b c = record { offset = p.offset; units = c.units + p.units; bytes = b }
+linked (Err err) b c = record { offset = c.offset; units = c.units; bytes = b }
 
 abbrev pub next_state : ℕ → List ℕ → ℕ → ChainState → ChainState
 next_state w s k c = linked (next_answer w s k c) (slice_bytes k w s c.offset c.bytes) c
@@ -50,8 +49,8 @@ total_budget l = sum ◌+◌ 0 l
 
 -- a success whose offset is a start
 abbrev pub ReachesStart : ℕ → List ℕ → SliceAnswer → Type 0
-ReachesStart w s (Reached offset units) = is_start w s offset ≡ true
-ReachesStart w s (Refused r at) = ⊥
+ReachesStart w s (Ok p) = is_start w s p.offset ≡ true
+ReachesStart w s (Err err) = ⊥
 
 -- Two slices from any state, the second from the offset that the first reached and over the bytes that it left, leave what one with both budgets leaves. The
 -- first is refused, and then so is the second, with the same answer; or both reach a start
@@ -68,7 +67,7 @@ CallsCompose = (w : ℕ) (s : List ℕ) (j k : ℕ) (c : ChainState) → Bytes s
 
 -- every slice is refused with r at i, and nothing moves
 pub record ChainRefused (w : ℕ) (s b l : List ℕ) (r : Refusal) (i : ℕ) : Type 0 where
-  pub answers : Each (λ a. a ≡ Refused r i) (chain_answers w s l b)
+  pub answers : Each (λ a. a ≡ refused_at r i) (chain_answers w s l b)
   pub state : chain w s l b ≡ chain_start b
 
 -- No slice is refused, and each reaches a start. The chain is at the sheet's end exactly when its budgets sum to at least the number of commands; then the
@@ -83,8 +82,8 @@ pub record ChainDone (w : ℕ) (s b l : List ℕ) (n : ℕ) : Type 0 where
 
 -- for every width, sheet, lent bytes and list of budgets, by what the whole run answers
 pub record ChainsRun : Type 0 where
-  pub refused : (w : ℕ) (s b l : List ℕ) (r : Refusal) (i : ℕ) → run_answer w s b ≡ Answers.Refused r i → ChainRefused w s b l r i
-  pub done : (w : ℕ) (s b l : List ℕ) → Bytes s → Bytes b → (n : ℕ) → run_answer w s b ≡ Answers.Done n → ChainDone w s b l n
+  pub refused : (w : ℕ) (s b l : List ℕ) (r : Refusal) (i : ℕ) → run_answer w s b ≡ refused_at r i → ChainRefused w s b l r i
+  pub done : (w : ℕ) (s b l : List ℕ) → Bytes s → Bytes b → (n : ℕ) → run_answer w s b ≡ Ok n → ChainDone w s b l n
 
 -- the way home of a chain: a backward run of the sheet finds the starting bytes, and answers what the whole run answers
 pub record ChainReturns (w : ℕ) (s b l : List ℕ) : Type 0 where

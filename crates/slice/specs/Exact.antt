@@ -1,5 +1,5 @@
 -- Document 02, Paper 5, in its words: what one slice does, and two after each other. The statements; proofs/Exact.antt shows them.
-use Rattle.std.specs.Prelude.{◌≡◌, true, List, ◌++◌, ℕ, ◌+◌, length, get_or, take}
+use Rattle.std.specs.Prelude.{◌≡◌, true, List, ◌++◌, ℕ, ◌+◌, length, get_or, take, Ok}
 use Rattle.answer.specs.Refuse.{is_done}
 use Rattle.invertible.specs.RoundTrip.{Forward}
 use Rattle.memory.specs.Bytes.{Bytes}
@@ -8,7 +8,7 @@ use Rattle.sheet.specs.Work.{total_units}
 use Rattle.sheet.specs.Run.{steps}
 use Rattle.sheet.specs.Progress.{RunState, remaining}
 use Rattle.sheet.specs.Start.{is_start}
-use Rattle.slice.specs.declared.SliceAnswer.TheVariants.{Reached}
+use Rattle.slice.specs.SliceAnswer.{reaching}
 use Rattle.slice.specs.Slice.{sliced, slice_tests, slice_answer, slice_bytes}
 
 -- From a start of a sheet that has no fault, with budget k. The commands that remain are the sheet's last ones. The first k of them are done, or all if they
@@ -25,7 +25,7 @@ SlicesExact = (k w : ℕ) (s : List ℕ) (i : ℕ) (v : List (List ℕ)) → (pl
 
 -- a slice that moves nothing, and reaches its own start with 0 units
 pub record Still (k w : ℕ) (s : List ℕ) (i : ℕ) (b : List ℕ) : Type 0 where
-  pub answer : slice_answer k w s i b ≡ Reached i 0
+  pub answer : slice_answer k w s i b ≡ Ok (reaching i 0)
   pub bytes : slice_bytes k w s i b ≡ b
 
 -- so does every slice with budget 0, and every one that starts at the sheet's end, unless it is refused

@@ -1,3 +1,4 @@
+pub mod SliceAnswer
 pub mod Slice
 pub mod Number
 pub mod Injective

@@ -1,14 +1,11 @@
 -- Document 02, Paper 5: a forward run that starts at an offset and does at most k commands, which the kit calls a slice.
-use Rattle.std.specs.Prelude.{List, ℕ, min, length}
-use Rattle.answer.specs.declared.Answer.{Answer}
-use Rattle.answer.specs.declared.Answer.TheVariants.{Done, Refused}
+use Rattle.std.specs.Prelude.{List, ℕ, min, length, Ok, Err}
+use Rattle.answer.specs.Answer.{Answer, refused_at}
 use Rattle.answer.specs.Refuse.{outcome}
 use Rattle.sheet.specs.Run.{vectors_in, vector_bytes, run_answer}
 use Rattle.sheet.specs.Progress.{RunState, starting_at, state_after, remaining}
 use Rattle.sheet.specs.Start.{is_start, then_start}
-use Rattle.slice.specs.declared.SliceAnswer.{SliceAnswer}
-use Rattle.slice.specs.declared.SliceAnswer.TheVariants as Slices
-use Rattle.slice.specs.declared.SliceAnswer.TheVariants.{Reached}
+use Rattle.slice.specs.SliceAnswer.{SliceAnswer, reaching}
 
 -- the state after exactly k commands from offset i, or those that remain if fewer
 abbrev pub sliced : ℕ → ℕ → List ℕ → ℕ → List (List ℕ) → RunState
@@ -21,8 +18,8 @@ slice_tests w s i b = then_start (is_start w s i) (run_answer w s b)
 
 -- a success tells what was reached
 abbrev pub reached_by : Answer → RunState → SliceAnswer
-reached_by (Done n) p = Reached p.offset p.units
-reached_by (Refused r at) p = Slices.Refused r at
+reached_by (Ok n) p = Ok (reaching p.offset p.units)
+reached_by (Err err) p = Err err
 
 -- The answer of a slice with budget k, and the bytes afterwards: a refused slice moves nothing
 abbrev pub slice_answer : ℕ → ℕ → List ℕ → ℕ → List ℕ → SliceAnswer

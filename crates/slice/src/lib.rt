@@ -5,21 +5,20 @@
 ghost use Rattle.std.specs.Prelude.{◌≡◌};
 ghost use Rattle.slice.specs.Number.{slice_number};
 
-use answer::{Answer, Refusal};
+use answer::Refused;
 
-// A success tells the offset that was reached and then the units of the commands done; a refusal its offset, as in `Answer`.
+// How far a slice came: the offset that it reached, and the units of the commands done.
 #[derive(Clone, Copy)]
-pub enum SliceAnswer {
-    Reached(u16, u16),
-    Refused(Refusal, u32),
+pub struct Reached {
+    pub offset: u16,
+    pub units: u16,
 }
+
+pub type SliceAnswer = Result<Reached, Refused>;
 
 // The answer as the one 64-bit number that C receives.
 pub fn number(a: SliceAnswer) -> u64
     ensures { result ≡ slice_number a }
 {
-    match a {
-        SliceAnswer::Reached(offset, units) => units as u64 * 65536 + offset as u64,
-        SliceAnswer::Refused(r, at) => answer::number(Answer::Refused(r, at)),
-    }
+    answer::number(a.map(|r| r.units as u64 * 65536 + r.offset as u64))
 }

@@ -1,4 +1,5 @@
 -- The loop over records: what is still to be compared leads to the same answer.
+use Rattle.std.specs.Prelude.{Ok, Some, None}
 use mathlib.Core.Path.{◌≡◌, refl, sym, ap, ap₂, ◌∙◌}
 use mathlib.Core.Bool.{Bool, true, false, cond}
 use mathlib.Core.List.{List}
@@ -15,8 +16,7 @@ use Rattle.sheet.proofs.Progress.{after_after, after_from}
 use Rattle.shuffle.specs.Shuffle.{record_length}
 use Rattle.shuffle.proofs.Widths.{sized, records_whole}
 use Rattle.replay.specs.declared.Finding.{Finding}
-use Rattle.replay.specs.declared.ReplayAnswer.{ReplayAnswer}
-use Rattle.replay.specs.declared.ReplayAnswer.TheVariants.{Holds, FirstFalse}
+use Rattle.replay.specs.ReplayAnswer.{ReplayAnswer, false_record}
 use Rattle.replay.specs.Difference.{words_in_order, record_at, same_words, difference}
 use Rattle.replay.specs.Replay.{state_by, recorded, replayed, first_false, record_count}
 use Rattle.replay.proofs.Words.{record_vectors}
@@ -99,7 +99,7 @@ module _ {w : ℕ} {s b r : List ℕ} {size number offset from : ℕ} {state : L
     all : record_count w r ≤ k
     all = no_fewer k (record_count w r) (record_length w) some_bytes (omega (arith, c.whole, c.at_record)) (dec_le (record_count w r) k)
 
-    pub holds_all : Holds ≡ first_false (record_count w r) w s b r 0
+    pub holds_all : (Ok None) ≡ first_false (record_count w r) w s b r 0
     holds_all =
         let none : record_count w r - k ≡ 0 = omega (arith, all) in
         ap (λ (n : ℕ). first_false n w s b r k) (sym none) ∙ c.rest
@@ -153,7 +153,7 @@ module _ {w : ℕ} {s b r : List ℕ} {size number offset from : ℕ} {state : L
 
         pub found_false : t ≡ false → {f : Finding}
             → f ≡ difference offset (record_at w r from) (record_at w last 0)
-            → FirstFalse number f ≡ first_false (record_count w r) w s b r 0
+            → Ok (Some (false_record number f)) ≡ first_false (record_count w r) w s b r 0
         found_false u ef =
             ap₂ {C = ReplayAnswer} FirstFalse c.numbered
             (ef ∙ ap (λ (o : ℕ). difference o (record_at w r from) (record_at w last 0)) c.offset_is

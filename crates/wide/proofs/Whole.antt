@@ -2,7 +2,7 @@
 use mathlib.Core.Path.{◌≡◌, ap}
 use mathlib.Core.List.{List}
 use Prim.Native.Nat.{ℕ}
-use Rattle.answer.specs.declared.Answer.{Answer}
+use Rattle.answer.specs.Answer.{Answer}
 use Rattle.digest.specs.Kind.{wide_kind}
 use Rattle.digest.specs.State.{Hash, open_answer, open_state, feed_answer, feed_state}
 use Rattle.wide.specs.declared.Wide.{Wide}

@@ -1,5 +1,5 @@
 use mathlib.Core.Path.{ap, ◌∙◌}
-use Rattle.replay.specs.declared.ReplayAnswer.{ReplayAnswer}
+use Rattle.replay.specs.ReplayAnswer.{ReplayAnswer}
 use Rattle.replay.specs.Number.{replay_number, finding_after}
 use Rattle.edonr.proofs.edonr_first_false_record.Goals as goal
 
