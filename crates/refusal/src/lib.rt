@@ -64,7 +64,8 @@ pub fn finishing(small: u64, large: u64, size: u64, total: u64, count: u32, room
 {
     answer::require(in_form(small, large, size, total), Refusal::State)?;
     answer::require(count <= 7, Refusal::BitCount)?;
-    delivering(size, room)
+    let length = delivering(size, room)?;
+    Ok(length)
 }
 
 pub fn digesting(small: u64, large: u64, size: u64, len: usize, room: usize) -> Answer
