@@ -10,30 +10,15 @@ ghost use Rattle.invertible.specs.RoundTrip.{Forward, Backward};
 ghost use Rattle.sheet.specs.Run.{step, steps, vectors_in};
 ghost use Rattle.sheet.specs.Progress.{starting_at, state_after};
 
-use sheet::Read;
-
-fn from_u16(x: u16) -> usize
-    ensures { result ≡ x }
-{
-    x as usize
-}
-
 // The vectors after the commands of a sheet, up to its end or its first fault.
 pub fn forward(width: u32, sheet: &[u8], vectors: &mut [u8])
     requires { (known_width width ≡ true) × (length vectors.old ≡ place_count * width) }
     ensures { let s = sheet.now in vectors_in width vectors.new ≡ steps Forward width s (scan_from (length s) width s 0).offsets (vectors_in width vectors.old) }
 {
     let mut at = 0;
-    loop {
-        match reader::read_command(width, sheet, at) {
-            Read::Got(d) => {
-                let c = d.command;
-                effect::apply(width, sheet, c, vectors);
-                at = d.next;
-            }
-            Read::Fault(_) => return,
-            Read::End => return,
-        }
+    while let Ok(Some(d)) = reader::read_command(width, sheet, at) {
+        effect::apply(width, sheet, d.command, vectors);
+        at = d.next;
     }
 }
 
@@ -43,15 +28,11 @@ pub fn step_forward(width: u32, sheet: &[u8], offset: usize, vectors: &mut [u8])
     ensures { let p = state_after 1 width sheet.now (starting_at offset (vectors_in width vectors.old)) in
         (result ≡ p.offset) × (vectors_in width vectors.new ≡ p.vectors) }
 {
-    match reader::read_command(width, sheet, offset) {
-        Read::Got(d) => {
-            let c = d.command;
-            effect::apply(width, sheet, c, vectors);
-            d.next
-        }
-        Read::Fault(_) => offset,
-        Read::End => offset,
+    if let Ok(Some(d)) = reader::read_command(width, sheet, offset) {
+        effect::apply(width, sheet, d.command, vectors);
+        return d.next;
     }
+    offset
 }
 
 // The vectors after the command at an offset is undone.
@@ -59,26 +40,18 @@ fn undo(width: u32, sheet: &[u8], at: usize, vectors: &mut [u8])
     requires { (known_width width ≡ true) × (length vectors.old ≡ place_count * width) }
     ensures { vectors_in width vectors.new ≡ step Backward width sheet.now at (vectors_in width vectors.old) }
 {
-    match reader::read_command(width, sheet, at) {
-        Read::Got(d) => {
-            let c = d.command;
-            let back = commands::opposite(c);
-            effect::apply(width, sheet, back, vectors)
-        }
-        Read::Fault(_) => return,
-        Read::End => return,
+    if let Ok(Some(d)) = reader::read_command(width, sheet, at) {
+        let back = commands::opposite(d.command);
+        effect::apply(width, sheet, back, vectors);
     }
 }
 
-// The vectors after the commands at the first `n` offsets are undone, the last one first.
-pub fn backward(width: u32, sheet: &[u8], offsets: &[u16], n: usize, vectors: &mut [u8])
-    requires { (known_width width ≡ true) × (length vectors.old ≡ place_count * width) × (n ≤ length offsets.now) }
-    ensures { let l = reverse (take n offsets.now) in vectors_in width vectors.new ≡ steps Backward width sheet.now l (vectors_in width vectors.old) }
+// The vectors after the commands at the offsets are undone, the last one first.
+pub fn backward(width: u32, sheet: &[u8], offsets: &[u16], vectors: &mut [u8])
+    requires { (known_width width ≡ true) × (length vectors.old ≡ place_count * width) }
+    ensures { let l = reverse offsets.now in vectors_in width vectors.new ≡ steps Backward width sheet.now l (vectors_in width vectors.old) }
 {
-    let mut done = 0;
-    while done < n {
-        let last = n - 1 - done;
-        undo(width, sheet, from_u16(offsets[last]), vectors);
-        done += 1;
+    for at in offsets.iter().rev() {
+        undo(width, sheet, usize::from(*at), vectors);
     }
 }

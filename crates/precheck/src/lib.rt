@@ -24,23 +24,8 @@ pub fn vectors_fit(width: u32, n: usize) -> bool
 fn sheet_answer(found: Summary) -> Answer
     ensures { result ≡ found_answer found }
 {
-    match found {
-        Summary::Whole(_, units) => Answer::Done(units as u64),
-        Summary::Faulty(r, at) => Answer::Refused(r, at),
-    }
-}
-
-// What the test of a slice's starting offset answers: `starts` tells whether a command starts there, and `size` is the sheet's.
-fn offset_answer(starts: bool, start: usize, size: usize) -> Answer
-    ensures { result ≡ unless (starts || eqb start size) Start (Done 0) }
-{
-    if starts {
-        return Answer::Done(0);
-    }
-    if start == size {
-        return Answer::Done(0);
-    }
-    Answer::Refused(Refusal::Start, 0)
+    let counts = found?;
+    Ok(counts.units as u64)
 }
 
 // What the tests of a slice's sheet and start answer: the first fault of the whole sheet, wherever the slice starts; then 14; or the sheet's units.
@@ -49,14 +34,7 @@ pub fn start_answer(width: u32, sheet: &[u8], start: usize) -> Answer
 {
     let mut none = [0u16; 0];
     let found = scanner::check_start(width, sheet, start, &mut none);
-    let summary = found.summary;
-    let whole = sheet_answer(summary);
-    let offset = offset_answer(found.starts, start, sheet.len());
-    if !answer::is_done(whole) {
-        return whole;
-    }
-    if !answer::is_done(offset) {
-        return offset;
-    }
-    whole
+    let units = sheet_answer(found.summary)?;
+    answer::require(found.starts || start == sheet.len(), Refusal::Start)?;
+    Ok(units)
 }

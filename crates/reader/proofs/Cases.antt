@@ -2,6 +2,7 @@
 use Rattle.std.specs.Prelude.{Err}
 use mathlib.Core.Path.{◌≡◌}
 use mathlib.Core.List.{List}
+use mathlib.Core.Logic.{◌⊎◌, inl, inr}
 use Prim.Native.Nat.{ℕ, ◌+◌, ◌-◌, ◌≤◌, ◌<◌}
 use native.Mathlib.Omega.{arith}
 use borrow.Author.Tests.{ne_eqb, eq-eqb, lt-leb, lt-ltb, le-ltb}
@@ -11,13 +12,10 @@ use Rattle.sheet.specs.declared.Places.{Places}
 use Rattle.sheet.specs.Read.{size_of, two_places, one_place, read_among, read_at}
 
 module _ (w : ℕ) (s : List ℕ) (i : ℕ) where
-  pub opcode_zero : i < length s → get_or s i 0 ≡ 0 → Err Opcode ≡ read_at w s i
+  pub no_opcode : i < length s → (get_or s i 0 ≡ 0) ⊎ ((get_or s i 0 ≡ 0 → ⊥) × (8 < get_or s i 0)) → Err Opcode ≡ read_at w s i
   unfolding read_among
-  opcode_zero m h = rw (lt-leb _ _ m, eq-eqb _ _ h)
-
-  pub opcode_high : i < length s → (get_or s i 0 ≡ 0 → ⊥) → 8 < get_or s i 0 → Err Opcode ≡ read_at w s i
-  unfolding read_among
-  opcode_high m n h = rw (lt-leb _ _ m, ne_eqb _ _ n, lt-ltb _ _ h)
+  no_opcode m (inl h) = rw (lt-leb _ _ m, eq-eqb _ _ h)
+  no_opcode m (inr h) = rw (lt-leb _ _ m, ne_eqb _ _ h.0, lt-ltb _ _ h.1)
 
   module _ (m : i < length s) (n : get_or s i 0 ≡ 0 → ⊥) (l : get_or s i 0 ≤ 8) (z : ℕ) (ez : z ≡ size_of w (get_or s i 0)) where
     pub truncated : length s - i < z → Err Truncated ≡ read_at w s i

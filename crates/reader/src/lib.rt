@@ -8,19 +8,6 @@ ghost use Rattle.sheet.specs.Read.{got as gotOf};
 use answer::Refusal;
 use sheet::{Command, Decoded, PLACES, Places, Read};
 
-fn from_u32(x: u32) -> usize
-    ensures value { result ≡ x }
-    ensures upper_bound { result < 4294967296 }
-{
-    x as usize
-}
-
-fn from_u8(x: u8) -> usize
-    ensures { result ≡ x }
-{
-    x as usize
-}
-
 // The number of bytes that a command takes, by its opcode.
 fn size_of(width: u32, opcode: u8) -> usize
     ensures { result ≡ size_of width opcode }
@@ -28,18 +15,18 @@ fn size_of(width: u32, opcode: u8) -> usize
     if opcode < 6 {
         return 3;
     }
-    if opcode == 6 { 2 } else { from_u32(width) + 2 }
+    if opcode == 6 { 2 } else { width as usize + 2 }
 }
 
 // A command that was read; `next` is the offset behind it.
 fn got(c: Command, next: usize) -> Read
     ensures { result ≡ gotOf c next }
 {
-    Read::Got(Decoded {
+    Ok(Some(Decoded {
         command: c,
-        next: next,
+        next,
         units: commands::units_of(c),
-    })
+    }))
 }
 
 // The command of two places with its opcode.
@@ -59,14 +46,11 @@ fn two_place_command(opcode: u8, p: Places) -> Command
 fn two_places(opcode: u8, p: Places, next: usize) -> Read
     ensures { result ≡ two_places opcode p next }
 {
-    if PLACES <= p.d {
-        return Read::Fault(Refusal::Place);
-    }
-    if PLACES <= p.s {
-        return Read::Fault(Refusal::Place);
+    if PLACES <= p.d || PLACES <= p.s {
+        return Err(Refusal::Place);
     }
     if p.d == p.s {
-        return Read::Fault(Refusal::SamePlace);
+        return Err(Refusal::SamePlace);
     }
     got(two_place_command(opcode, p), next)
 }
@@ -87,7 +71,7 @@ fn one_place(opcode: u8, d: usize, k: usize, next: usize) -> Read
     ensures { result ≡ one_place opcode d k next }
 {
     if PLACES <= d {
-        return Read::Fault(Refusal::Place);
+        return Err(Refusal::Place);
     }
     got(one_place_command(opcode, d, k), next)
 }
@@ -97,27 +81,22 @@ pub fn read_command(width: u32, sheet: &[u8], at: usize) -> Read
     ensures { result ≡ read_at width sheet.now at }
 {
     if sheet.len() <= at {
-        return Read::End;
+        return Ok(None);
     }
     let opcode = sheet[at];
-    if opcode == 0 {
-        return Read::Fault(Refusal::Opcode);
-    }
-    if 8 < opcode {
-        return Read::Fault(Refusal::Opcode);
+    if opcode == 0 || 8 < opcode {
+        return Err(Refusal::Opcode);
     }
     let size = size_of(width, opcode);
     if sheet.len() - at < size {
-        return Read::Fault(Refusal::Truncated);
+        return Err(Refusal::Truncated);
     }
     let i = at + 1;
-    let d = from_u8(sheet[i]);
+    let d = sheet[i] as usize;
     let j = at + 2;
     if opcode < 6 {
-        let p = Places {
-            d: d,
-            s: from_u8(sheet[j]),
-        };
+        let s = sheet[j] as usize;
+        let p = Places { d, s };
         return two_places(opcode, p, at + size);
     }
     one_place(opcode, d, j, at + size)

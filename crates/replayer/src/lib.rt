@@ -6,9 +6,8 @@ ghost use Rattle.quasigroup.specs.Tables.{known_width};
 ghost use Rattle.shuffle.specs.Shuffle.{record_length};
 ghost use Rattle.replay.specs.Replay.{record_tests, replay_answer};
 
-use answer::{Answer, Refusal};
+use answer::{Answer, Refusal, Refused};
 use replay::ReplayAnswer;
-use sheet::Summary;
 
 // What the tests of `n` bytes of records answer, of a sheet with `commands` commands.
 fn records_answer(width: u32, n: usize, commands: usize) -> Answer
@@ -16,15 +15,9 @@ fn records_answer(width: u32, n: usize, commands: usize) -> Answer
     ensures { result ≡ record_tests width n commands }
 {
     let size = 8 * (width as usize);
-    let rest = n % size;
-    let count = n / size;
-    if rest != 0 {
-        return Answer::Refused(Refusal::Records, 0);
-    }
-    if commands < count {
-        return Answer::Refused(Refusal::RecordCount, 0);
-    }
-    Answer::Done(0)
+    answer::require(n % size == 0, Refusal::Records)?;
+    answer::require(n / size <= commands, Refusal::RecordCount)?;
+    Ok(0)
 }
 
 // A replay at a width of document 01's, with a state of as many bytes as the vectors have.
@@ -38,20 +31,12 @@ fn replay_at(
     requires { (known_width width ≡ true) × (length state.old ≡ record_length width) }
     ensures { result ≡ replay_answer width sheet.now vectors.now records.now }
 {
-    if !precheck::vectors_fit(width, vectors.len()) {
-        return ReplayAnswer::Refused(Refusal::Operand, 0);
-    }
+    answer::require(precheck::vectors_fit(width, vectors.len()), Refusal::Operand)?;
     let mut none = [0u16; 0];
-    match scanner::check(width, sheet, &mut none) {
-        Summary::Whole(commands, _) => match records_answer(width, records.len(), commands) {
-            Answer::Done(_) => {
-                memory::copy_at(state, 0, vectors);
-                verifier::first_false(width, sheet, records, state)
-            }
-            Answer::Refused(r, at) => ReplayAnswer::Refused(r, at),
-        },
-        Summary::Faulty(r, at) => ReplayAnswer::Refused(r, at),
-    }
+    let counts = scanner::check(width, sheet, &mut none)?;
+    records_answer(width, records.len(), counts.commands)?;
+    memory::copy_at(state, 0, vectors);
+    verifier::first_false(width, sheet, records, state)
 }
 
 // The first false record of a run of the sheet over the vectors, all of which stay as they are. One state serves both widths.
@@ -65,5 +50,5 @@ pub fn first_false_record(width: u32, vectors: &[u8], sheet: &[u8], records: &[u
     if width == 64 {
         return replay_at(64, vectors, sheet, records, &mut state[..512]);
     }
-    ReplayAnswer::Refused(Refusal::Width, 0)
+    Err(Refused::from(Refusal::Width))
 }

@@ -6,8 +6,8 @@ ghost use Rattle.quasigroup.specs.Tables.{known_width};
 ghost use Rattle.invertible.specs.RoundTrip.{Forward, Backward};
 ghost use Rattle.sheet.specs.Run.{run_answer, run_bytes};
 
-use answer::{Answer, Refusal};
-use sheet::{MOST, Summary};
+use answer::{Answer, Refusal, Refused};
+use sheet::MOST;
 
 // A forward run at a width of document 01's.
 fn forward_at(width: u32, vectors: &mut [u8], sheet: &[u8]) -> Answer
@@ -15,17 +15,11 @@ fn forward_at(width: u32, vectors: &mut [u8], sheet: &[u8]) -> Answer
     ensures value { result ≡ run_answer width sheet.now vectors.old }
     ensures vectors_after { vectors.new ≡ run_bytes Forward width sheet.now vectors.old }
 {
-    if !precheck::vectors_fit(width, vectors.len()) {
-        return Answer::Refused(Refusal::Operand, 0);
-    }
+    answer::require(precheck::vectors_fit(width, vectors.len()), Refusal::Operand)?;
     let mut none = [0u16; 0];
-    match scanner::check(width, sheet, &mut none) {
-        Summary::Whole(_, units) => {
-            interpreter::forward(width, sheet, vectors);
-            Answer::Done(units as u64)
-        }
-        Summary::Faulty(r, at) => Answer::Refused(r, at),
-    }
+    let counts = scanner::check(width, sheet, &mut none)?;
+    interpreter::forward(width, sheet, vectors);
+    Ok(counts.units as u64)
 }
 
 // A backward run at a width of document 01's. The offsets are remembered, so that its time is linear.
@@ -34,17 +28,12 @@ fn backward_at(width: u32, vectors: &mut [u8], sheet: &[u8]) -> Answer
     ensures value { result ≡ run_answer width sheet.now vectors.old }
     ensures vectors_after { vectors.new ≡ run_bytes Backward width sheet.now vectors.old }
 {
-    if !precheck::vectors_fit(width, vectors.len()) {
-        return Answer::Refused(Refusal::Operand, 0);
-    }
+    answer::require(precheck::vectors_fit(width, vectors.len()), Refusal::Operand)?;
     let mut offsets = [0u16; MOST];
-    match scanner::check(width, sheet, &mut offsets) {
-        Summary::Whole(n, undone) => {
-            interpreter::backward(width, sheet, &offsets, n, vectors);
-            Answer::Done(undone as u64)
-        }
-        Summary::Faulty(r, at) => Answer::Refused(r, at),
-    }
+    let counts = scanner::check(width, sheet, &mut offsets)?;
+    interpreter::backward(width, sheet, &offsets[..counts.commands], vectors);
+    let undone = counts.units;
+    Ok(undone as u64)
 }
 
 // A forward run of a sheet over the lent vectors.
@@ -58,7 +47,7 @@ pub fn run_forward(width: u32, vectors: &mut [u8], sheet: &[u8]) -> Answer
     if width == 64 {
         return forward_at(64, vectors, sheet);
     }
-    Answer::Refused(Refusal::Width, 0)
+    Err(Refused::from(Refusal::Width))
 }
 
 // A backward run of a sheet over the lent vectors.
@@ -72,5 +61,5 @@ pub fn run_backward(width: u32, vectors: &mut [u8], sheet: &[u8]) -> Answer
     if width == 64 {
         return backward_at(64, vectors, sheet);
     }
-    Answer::Refused(Refusal::Width, 0)
+    Err(Refused::from(Refusal::Width))
 }

@@ -7,8 +7,8 @@ ghost use Rattle.sheet.specs.Sheet.{scan_from, plan_of};
 ghost use Rattle.sheet.specs.Start.{among};
 ghost use Rattle.sheet.specs.Work.{summary};
 
-use answer::Refusal;
-use sheet::{LONGEST, Read, Summary};
+use answer::{Refusal, Refused};
+use sheet::{Counts, LONGEST, Summary};
 
 // What the check of a sheet finds, and whether an offset that it was asked for is that of a command before the sheet's end or its first fault.
 #[derive(Clone, Copy)]
@@ -46,21 +46,23 @@ fn scan(width: u32, sheet: &[u8], start: usize, offsets: &mut [u16]) -> Checked
     let mut starts = false;
     loop {
         match reader::read_command(width, sheet, at) {
-            Read::Got(d) => {
+            Ok(Some(d)) => {
                 remember(offsets, count, at as u16);
                 starts = met(starts, start, at);
                 count += 1;
                 units += d.units;
                 at = d.next;
             }
-            Read::Fault(r) => return Checked {
-                summary: Summary::Faulty(r, at as u32),
-                starts: starts,
-            },
-            Read::End => return Checked {
-                summary: Summary::Whole(count, units),
-                starts: starts,
-            },
+            Ok(None) => {
+                let commands = count;
+                let summary = Ok(Counts { commands, units });
+                return Checked { summary, starts };
+            }
+            Err(refusal) => {
+                let offset = at as u32;
+                let summary = Err(Refused { refusal, offset });
+                return Checked { summary, starts };
+            }
         }
     }
 }
@@ -74,7 +76,7 @@ pub fn check_start(width: u32, sheet: &[u8], start: usize, offsets: &mut [u16]) 
 {
     if LONGEST < sheet.len() {
         return Checked {
-            summary: Summary::Faulty(Refusal::Sheet, 0),
+            summary: Err(Refused::from(Refusal::Sheet)),
             starts: false,
         };
     }

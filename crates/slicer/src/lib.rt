@@ -5,8 +5,8 @@ ghost use Rattle.std.specs.Prelude.{◌≡◌, true};
 ghost use Rattle.quasigroup.specs.Tables.{known_width};
 ghost use Rattle.slice.specs.Slice.{slice_answer, slice_bytes};
 
-use answer::{Answer, Refusal};
-use slice::SliceAnswer;
+use answer::{Refusal, Refused};
+use slice::{Reached, SliceAnswer};
 
 // A slice at a width of document 01's. (The tests answer the units of the whole sheet, and the slice those of what it did.)
 fn slice_at(width: u32, vectors: &mut [u8], sheet: &[u8], start: usize, budget: u16) -> SliceAnswer
@@ -14,19 +14,12 @@ fn slice_at(width: u32, vectors: &mut [u8], sheet: &[u8], start: usize, budget: 
     ensures value { result ≡ slice_answer budget width sheet.now start vectors.old }
     ensures vectors_after { vectors.new ≡ slice_bytes budget width sheet.now start vectors.old }
 {
-    if !precheck::vectors_fit(width, vectors.len()) {
-        return SliceAnswer::Refused(Refusal::Operand, 0);
-    }
-    let tested = precheck::start_answer(width, sheet, start);
-    match tested {
-        Answer::Done(_whole) => {
-            let p = stepper::advance(width, sheet, start, budget, vectors);
-            let reached = p.offset;
-            let units = p.units;
-            SliceAnswer::Reached(reached as u16, units as u16)
-        }
-        Answer::Refused(r, at) => SliceAnswer::Refused(r, at),
-    }
+    answer::require(precheck::vectors_fit(width, vectors.len()), Refusal::Operand)?;
+    let _whole = precheck::start_answer(width, sheet, start)?;
+    let p = stepper::advance(width, sheet, start, budget, vectors);
+    let offset = p.offset as u16;
+    let units = p.units as u16;
+    Ok(Reached { offset, units })
 }
 
 // A slice of a sheet over the lent vectors.
@@ -47,5 +40,5 @@ pub fn run_slice(
     if width == 64 {
         return slice_at(64, vectors, sheet, start, budget);
     }
-    SliceAnswer::Refused(Refusal::Width, 0)
+    Err(Refused::from(Refusal::Width))
 }

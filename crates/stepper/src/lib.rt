@@ -7,14 +7,6 @@ ghost use Rattle.sheet.specs.Read.{place_count};
 ghost use Rattle.sheet.specs.Run.{vectors_in};
 ghost use Rattle.sheet.specs.Progress.{run_state, starting_at, state_after};
 
-use sheet::Read;
-
-fn from_u16(x: u16) -> usize
-    ensures { result ≡ x }
-{
-    x as usize
-}
-
 // How far a forward run came: the offset that it reached, and the units of the commands done.
 #[derive(Clone, Copy)]
 pub struct Progress {
@@ -27,32 +19,15 @@ pub fn advance(width: u32, sheet: &[u8], start: usize, budget: u16, vectors: &mu
     requires { (known_width width ≡ true) × (length vectors.old ≡ place_count * width) }
     ensures { run_state result.offset result.units (vectors_in width vectors.new) ≡ state_after budget width sheet.now (starting_at start (vectors_in width vectors.old)) }
 {
-    let mut at = start;
+    let mut offset = start;
     let mut units: usize = 0;
-    let mut done: usize = 0;
-    let most = from_u16(budget);
-    while done < most {
-        match reader::read_command(width, sheet, at) {
-            Read::Got(d) => {
-                let c = d.command;
-                let work = d.units;
-                effect::apply(width, sheet, c, vectors);
-                units += work;
-                at = d.next;
-                done += 1;
-            }
-            Read::Fault(_) => return Progress {
-                offset: at,
-                units: units,
-            },
-            Read::End => return Progress {
-                offset: at,
-                units: units,
-            },
-        }
+    for _ in 0..budget {
+        let Ok(Some(d)) = reader::read_command(width, sheet, offset) else {
+            break;
+        };
+        effect::apply(width, sheet, d.command, vectors);
+        units += d.units;
+        offset = d.next;
     }
-    Progress {
-        offset: at,
-        units: units,
-    }
+    Progress { offset, units }
 }

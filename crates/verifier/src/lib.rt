@@ -8,7 +8,7 @@ ghost use Rattle.shuffle.specs.Shuffle.{record_length};
 ghost use Rattle.replay.specs.Replay.{record_count, state_by, first_false};
 ghost use Rattle.verifier.specs.Done.{commands_done};
 
-use replay::ReplayAnswer;
+use replay::{FalseRecord, ReplayAnswer};
 
 // The first false record. `state` is lent with the starting vectors and goes from one command to the next, as far as records are looked at.
 pub fn first_false(width: u32, sheet: &[u8], records: &[u8], state: &mut [u8]) -> ReplayAnswer
@@ -25,11 +25,11 @@ pub fn first_false(width: u32, sheet: &[u8], records: &[u8], state: &mut [u8]) -
         let next = interpreter::step_forward(width, sheet, offset, state);
         if !comparison::record_holds(width, state, records, from) {
             let finding = comparison::finding(width, offset, state, records, from);
-            return ReplayAnswer::FirstFalse(number, finding);
+            return Ok(Some(FalseRecord { number, finding }));
         }
         number += 1;
         offset = next;
         from += size;
     }
-    ReplayAnswer::Holds
+    Ok(None)
 }

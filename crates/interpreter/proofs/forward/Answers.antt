@@ -12,42 +12,42 @@ loop-d-init c = (c.requires.0, c.requires.1, refl, omega arith, refl)
 pub apply-requires : goal.apply-requires
 apply-requires c =
     let a = c.args in
-    let e = sym c.read_command.ensures ∙ c.in-Got.is in
+    let e = sym c.read_command.ensures ∙ c.in-Ok-Some.is in
     (c.loop-d.invariant.0, c.loop-d.invariant.1, (got_sound a.width a.sheet.now c.loop-d.at e).sound)
 
 pub loop-d-smaller : goal.loop-d-smaller
 loop-d-smaller c =
     let a = c.args in
-    let h = got_sound a.width a.sheet.now c.loop-d.at (sym c.read_command.ensures ∙ c.in-Got.is) in
+    let h = got_sound a.width a.sheet.now c.loop-d.at (sym c.read_command.ensures ∙ c.in-Ok-Some.is) in
     omega (arith, h.on, h.within)
 
 pub loop-d-preserved : goal.loop-d-preserved
 loop-d-preserved c =
     let a = c.args in
-    let e = sym c.read_command.ensures ∙ c.in-Got.is in
+    let e = sym c.read_command.ensures ∙ c.in-Ok-Some.is in
     let h = got_sound a.width a.sheet.now c.loop-d.at e in (
       c.loop-d.invariant.0,
       search rules,
       search rules,
       h.within,
-      forward_more a.width a.sheet.now c.loop-d.at (vectors_in a.width c.loop-d.vectors) c.loop-d.invariant.4 c.in-Got.d e
+      forward_more a.width a.sheet.now c.loop-d.at (vectors_in a.width c.loop-d.vectors) c.loop-d.invariant.4 c.in-Ok-Some.d e
           c.apply.ensures,
     )
 
-pub shape_of-vectors-in-Fault : goal.shape_of-vectors-in-Fault
-shape_of-vectors-in-Fault c = c.loop-d.invariant.2
+pub shape_of-vectors-in-Err : goal.shape_of-vectors-in-Err
+shape_of-vectors-in-Err c = c.loop-d.invariant.2
 
-pub returns-in-Fault : goal.returns-in-Fault
-returns-in-Fault c =
+pub returns-in-Err : goal.returns-in-Err
+returns-in-Err c =
     let a = c.args in
     forward_fault a.width a.sheet.now c.loop-d.at (vectors_in a.width c.loop-d.vectors) c.loop-d.invariant.4
-    c.in-Fault.field-0 (sym c.read_command.ensures ∙ c.in-Fault.is)
+    c.in-Err.field-0 (sym c.read_command.ensures ∙ c.in-Err.is)
 
-pub shape_of-vectors-in-End : goal.shape_of-vectors-in-End
-shape_of-vectors-in-End c = c.loop-d.invariant.2
+pub shape_of-vectors-in-Ok-None : goal.shape_of-vectors-in-Ok-None
+shape_of-vectors-in-Ok-None c = c.loop-d.invariant.2
 
-pub returns-in-End : goal.returns-in-End
-returns-in-End c =
+pub returns-in-Ok-None : goal.returns-in-Ok-None
+returns-in-Ok-None c =
     let a = c.args in
     forward_end a.width a.sheet.now c.loop-d.at (vectors_in a.width c.loop-d.vectors) c.loop-d.invariant.4
-    (sym c.read_command.ensures ∙ c.in-End.is)
+    (sym c.read_command.ensures ∙ c.in-Ok-None.is)

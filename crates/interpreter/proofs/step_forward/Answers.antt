@@ -11,26 +11,26 @@ apply-requires c =
     let a = c.args in (
       c.requires.0,
       c.requires.1,
-      (got_sound a.width a.sheet.now a.offset (sym c.read_command.ensures ∙ c.in-Got.is)).sound,
+      (got_sound a.width a.sheet.now a.offset (sym c.read_command.ensures ∙ c.in-Ok-Some.is)).sound,
     )
 
-pub returns-in-Got : goal.returns-in-Got
-returns-in-Got c =
+pub returns-in-Ok-Some : goal.returns-in-Ok-Some
+returns-in-Ok-Some c =
     let a = c.args in
-    let e = sym (after_read a.width a.sheet.now 0 (starting_at a.offset (vectors_in a.width a.vectors.now)) (Ok (Some c.in-Got.d))
-    (sym c.read_command.ensures ∙ c.in-Got.is)) in
+    let e = sym (after_read a.width a.sheet.now 0 (starting_at a.offset (vectors_in a.width a.vectors.now)) (Ok (Some c.in-Ok-Some.d))
+    (sym c.read_command.ensures ∙ c.in-Ok-Some.is)) in
     (ap (λ (p : RunState). p.offset) e, c.apply.ensures ∙ ap (λ (p : RunState). p.vectors) e)
 
-pub returns-in-Fault : goal.returns-in-Fault
-returns-in-Fault c =
+pub returns-in-Err : goal.returns-in-Err
+returns-in-Err c =
     let a = c.args in
-    let e = sym (after_read a.width a.sheet.now 0 (starting_at a.offset (vectors_in a.width a.vectors.now)) (Err c.in-Fault.field-0)
-    (sym c.read_command.ensures ∙ c.in-Fault.is)) in
+    let e = sym (after_read a.width a.sheet.now 0 (starting_at a.offset (vectors_in a.width a.vectors.now)) (Err c.in-Err.field-0)
+    (sym c.read_command.ensures ∙ c.in-Err.is)) in
     (ap (λ (p : RunState). p.offset) e, ap (λ (p : RunState). p.vectors) e)
 
-pub returns-in-End : goal.returns-in-End
-returns-in-End c =
+pub returns-in-Ok-None : goal.returns-in-Ok-None
+returns-in-Ok-None c =
     let a = c.args in
     let e = sym (after_read a.width a.sheet.now 0 (starting_at a.offset (vectors_in a.width a.vectors.now)) (Ok None)
-    (sym c.read_command.ensures ∙ c.in-End.is)) in
+    (sym c.read_command.ensures ∙ c.in-Ok-None.is)) in
     (ap (λ (p : RunState). p.offset) e, ap (λ (p : RunState). p.vectors) e)

@@ -12,25 +12,25 @@ pub apply-requires : goal.apply-requires
 apply-requires c =
     let a = c.args in
     let n = length a.sheet.now in
-    let h = got_sound a.width a.sheet.now a.at (sym c.read_command.ensures ∙ c.in-Got.is) in (
+    let h = got_sound a.width a.sheet.now a.at (sym c.read_command.ensures ∙ c.in-Ok-Some.is) in (
       c.requires.0,
       c.requires.1,
-      subst (SoundCommand a.width n) (sym c.opposite-back.ensures) (sound_undone place_count a.width n c.in-Got.d.command h.sound),
+      subst (SoundCommand a.width n) (sym c.opposite-back.ensures) (sound_undone place_count a.width n c.in-Ok-Some.d.command h.sound),
     )
 
-pub returns-in-Fault : goal.returns-in-Fault
-returns-in-Fault c =
+pub returns-in-Err : goal.returns-in-Err
+returns-in-Err c =
     let a = c.args in
     undone_fault a.width a.sheet.now a.at (vectors_in a.width a.vectors.now)
-    c.in-Fault.field-0 (sym c.read_command.ensures ∙ c.in-Fault.is)
+    c.in-Err.field-0 (sym c.read_command.ensures ∙ c.in-Err.is)
 
-pub returns-in-End : goal.returns-in-End
-returns-in-End c =
+pub returns-in-Ok-None : goal.returns-in-Ok-None
+returns-in-Ok-None c =
     let a = c.args in
-    undone_end a.width a.sheet.now a.at (vectors_in a.width a.vectors.now) (sym c.read_command.ensures ∙ c.in-End.is)
+    undone_end a.width a.sheet.now a.at (vectors_in a.width a.vectors.now) (sym c.read_command.ensures ∙ c.in-Ok-None.is)
 
 pub returns : goal.returns
 returns c =
     let a = c.args in
     undone_got a.width a.sheet.now a.at (vectors_in a.width a.vectors.now)
-    c.in-Got.d (sym c.read_command.ensures ∙ c.in-Got.is) c.opposite-back.ensures c.apply.ensures
+    c.in-Ok-Some.d (sym c.read_command.ensures ∙ c.in-Ok-Some.is) c.opposite-back.ensures c.apply.ensures

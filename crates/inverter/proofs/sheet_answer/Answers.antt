@@ -24,9 +24,9 @@ returns-in-Whole c =
     passes place_count a.width true s (Ok (length s))
     (record { width = goes_on c.known_width.ensures (ap not c.if-not-known_width.false); operands = refl; sheet = e.sound })
 
-pub returns-in-Faulty : goal.returns-in-Faulty
-returns-in-Faulty c =
+pub returns-in-Erry : goal.returns-in-Erry
+returns-in-Erry c =
     let a = c.args in
     let s = a.sheet.now in
     fault_refused place_count a.width true s (Ok (length s)) (goes_on c.known_width.ensures (ap not c.if-not-known_width.false)) refl
-    c.in-Faulty.r c.in-Faulty.at (faulted a.width s _ _ (sym c.in-Faulty.is ∙ c.check.ensures.value))
+    c.in-Erry.r c.in-Erry.at (faulted a.width s _ _ (sym c.in-Erry.is ∙ c.check.ensures.value))

@@ -20,10 +20,10 @@ returns-in-Whole c =
       upper_bound = omega (arith, c.push_lines-at.ensures.upper_bound, c.push_end.ensures.upper_bound);
     }
 
-pub returns-in-Faulty : goal.returns-in-Faulty
-returns-in-Faulty c =
+pub returns-in-Erry : goal.returns-in-Erry
+returns-in-Erry c =
     let a = c.args in
-    let f = finished c.push_refused.ensures.pushed (listed_faulty a.width a.sheet.now c.in-Faulty.r c.in-Faulty.at (sym c.in-Faulty.is ∙ c.check.ensures.value)) in
+    let f = finished c.push_refused.ensures.pushed (listed_faulty a.width a.sheet.now c.in-Erry.r c.in-Erry.at (sym c.in-Erry.is ∙ c.check.ensures.value)) in
     record {
       out_after = f.0;
       value = f.1;

@@ -5,5 +5,5 @@ use Rattle.precheck.proofs.sheet_answer.Goals as goal
 pub returns-in-Whole : goal.returns-in-Whole
 returns-in-Whole c = sym (ap found_answer c.in-Whole.is)
 
-pub returns-in-Faulty : goal.returns-in-Faulty
-returns-in-Faulty c = sym (ap found_answer c.in-Faulty.is)
+pub returns-in-Erry : goal.returns-in-Erry
+returns-in-Erry c = sym (ap found_answer c.in-Erry.is)

@@ -1,24 +1,17 @@
-use mathlib.Core.Path.{sym, ◌∙◌}
+use mathlib.Core.Path.{refl, sym, ◌∙◌}
 use native.Mathlib.Omega.{arith}
 use lib.ListN.{get_or}
 use Rattle.sheet.specs.Read.{place_count}
 use Rattle.sheet.proofs.Sound.{size_two, size_three}
 use Rattle.sheet.proofs.Scan.{read_end}
-use Rattle.reader.proofs.Cases.{opcode_zero, opcode_high, truncated, of_two, of_one}
+use Rattle.reader.proofs.Cases.{no_opcode, truncated, of_two, of_one}
 use Rattle.reader.proofs.read_command.Goals as goal
 
 pub returns-then-sheet-at : goal.returns-then-sheet-at
 returns-then-sheet-at c = let a = c.args in sym (read_end place_count a.width a.sheet.now a.at c.if-sheet-at.true)
 
 pub returns-then-opcode-eq0 : goal.returns-then-opcode-eq0
-returns-then-opcode-eq0 c =
-    let a = c.args in
-    opcode_zero a.width a.sheet.now a.at c.if-sheet-at.false c.if-opcode-eq0.true
-
-pub returns-then-opcode-gt8 : goal.returns-then-opcode-gt8
-returns-then-opcode-gt8 c =
-    let a = c.args in
-    opcode_high a.width a.sheet.now a.at c.if-sheet-at.false c.if-opcode-eq0.false c.if-opcode-gt8.true
+returns-then-opcode-eq0 c = let a = c.args in no_opcode a.width a.sheet.now a.at c.if-sheet-at.false c.then-opcode-eq0.either
 
 pub returns-then-sheet-at-2 : goal.returns-then-sheet-at-2
 returns-then-sheet-at-2 c =
@@ -41,11 +34,11 @@ returns-then-opcode-lt6 c =
     let a = c.args in
     c.two_places.ensures
     ∙ of_two a.width a.sheet.now a.at c.if-sheet-at.false c.if-opcode-eq0.false c.if-opcode-gt8.false c.size_of-size.result c.size_of-size.ensures
-    c.if-sheet-at-2.false c.if-opcode-lt6.true _ c.from_u8-d.ensures c.from_u8.ensures
+    c.if-sheet-at-2.false c.if-opcode-lt6.true _ refl refl
 
 pub returns : goal.returns
 returns c =
     let a = c.args in
     c.one_place.ensures
     ∙ of_one a.width a.sheet.now a.at c.if-sheet-at.false c.if-opcode-eq0.false c.if-opcode-gt8.false c.size_of-size.result c.size_of-size.ensures
-    c.if-sheet-at-2.false c.if-opcode-lt6.false _ c.from_u8-d.ensures
+    c.if-sheet-at-2.false c.if-opcode-lt6.false _ refl

@@ -44,8 +44,8 @@ returns-in-Refused c =
     (sym c.in-Whole.is ∙ c.check.ensures.value) c.records_answer.ensures c.in-Refused.r c.in-Refused.at
     c.in-Refused.is
 
-pub returns-in-Faulty : goal.returns-in-Faulty
-returns-in-Faulty c =
+pub returns-in-Erry : goal.returns-in-Erry
+returns-in-Erry c =
     let a = c.args in
     fault_refused a.width a.sheet.now a.vectors.now a.records.now c.requires.0 (goes_on c.vectors_fit.ensures (ap not c.if-not-vectors_fit.false))
-    c.in-Faulty.r c.in-Faulty.at (sym c.in-Faulty.is ∙ c.check.ensures.value)
+    c.in-Erry.r c.in-Erry.at (sym c.in-Erry.is ∙ c.check.ensures.value)

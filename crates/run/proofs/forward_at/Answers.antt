@@ -34,10 +34,10 @@ returns-in-Whole c =
       vectors_after = both.1;
     }
 
-pub returns-in-Faulty : goal.returns-in-Faulty
-returns-in-Faulty c =
+pub returns-in-Erry : goal.returns-in-Erry
+returns-in-Erry c =
     let both = fault_refused Forward c.args.width c.args.sheet.now c.args.vectors.now c.requires (goes_on c.vectors_fit.ensures (ap not c.if-not-vectors_fit.false))
-    c.in-Faulty.r c.in-Faulty.at (sym c.in-Faulty.is ∙ c.check.ensures.value) in
+    c.in-Erry.r c.in-Erry.at (sym c.in-Erry.is ∙ c.check.ensures.value) in
     record {
       value = both.0;
       vectors_after = both.1;
