@@ -99,6 +99,6 @@ module _ (w : ℕ) (s : List ℕ) (x : ℕ) where
         let en : n ≡ length (scan_from (length s) w s 0).offsets = omega arith in
         let et : t ≡ total_units w s (scan_from (length s) w s 0).offsets = omega arith in
         let o : ◌≡◌ {A = Outcome} Plans.Sound (scan_from (length s) w s 0).outcome = rw step at now.outcome in (
-          ap (λ (a : ℕ). Ok (counts a t)) en ∙ ap (Ok (counts (length (scan_from (length s) w s 0).offsets)) et ∙ ap (summed w s (scan_from (length s) w s 0).offsets) o,
+          ap (λ (a : ℕ). Ok (counts a t)) en ∙ ap (λ (b : ℕ). Ok (counts (length (scan_from (length s) w s 0).offsets) b)) et ∙ ap (summed w s (scan_from (length s) w s 0).offsets) o,
           (sym (or-false m) ∙ (rw step at now.sought), rw step at now.stored),
         )

@@ -1,5 +1,5 @@
 -- What is known of what was read at an offset.
-use Rattle.std.specs.Prelude.{Ok, Err, Some}
+use Rattle.std.specs.Prelude.{Option, Ok, Err, Some, None}
 use mathlib.Core.Path.{◌≡◌, sym, subst}
 use mathlib.Core.Bool.{cond, ◌||◌}
 use mathlib.Core.List.{List}
@@ -16,7 +16,7 @@ use Rattle.sheet.specs.declared.Command.TheVariants.{Lmul, Rmul, Ldiv, Rdiv, Swa
 use Rattle.sheet.specs.declared.Decoded.{Decoded}
 use Rattle.sheet.specs.Units.{units}
 use Rattle.sheet.specs.Sound.{SoundPlaces, SoundVector, SoundCommandAmong, SoundDecoded, SoundRead}
-use Rattle.sheet.specs.Read.{place_count, size_of, two_place_command, two_places_among, one_place_command, one_place_among, read_among, read_at}
+use Rattle.sheet.specs.Read.{Read, place_count, size_of, two_place_command, two_places_among, one_place_command, one_place_among, read_among, read_at}
 
 pub size_two : (w b : ℕ) → 2 ≤ size_of w b
 size_two w b =
@@ -101,6 +101,13 @@ read_sound n w s i =
     let p : Places = record { d = get_or s (i + 1) 0; s = get_or s (i + 2) 0 } in
     split P (ltb b 6) _ _ (λ l. two_sound n w (length s) i m b (i + size_of w b) t z (omega (arith, size_three w b (ltb-true b 6 l))) p) λ l.
     one_sound n w (length s) i m b (i + size_of w b) t z (get_or s (i + 1) 0) (λ e. omega (arith, size_key w b (ltb-false b 6 l) e))
+
+-- what code found where it read, taken apart
+pub was_read : {r x : Read} {o : Option Decoded} {d : Decoded} → r ≡ x → r ≡ Ok o → o ≡ Some d → x ≡ Ok (Some d)
+was_read e f g = cc
+
+pub was_end : {r x : Read} {o : Option Decoded} → r ≡ x → r ≡ Ok o → o ≡ None → x ≡ Ok None
+was_end e f g = cc
 
 pub got_sound : (w : ℕ) (s : List ℕ) (i : ℕ) {d : Decoded} → read_at w s i ≡ Ok (Some d) → SoundDecoded w (length s) i d
 got_sound w s i e = subst (SoundRead place_count w (length s) i) e (read_sound place_count w s i)
