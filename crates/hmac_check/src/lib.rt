@@ -1,8 +1,7 @@
 // The tests of the calls that make and compare tags, by numbers alone, and the block length of a size.
 #![tactic(auto)]
 
-ghost use Rattle.std.specs.Prelude.{◌≡◌};
-ghost use Rattle.answer.specs.declared.Answer.TheVariants.{Done};
+ghost use Rattle.std.specs.Prelude.{◌≡◌, Ok};
 ghost use Rattle.hmac.specs.Hmac.{block_for};
 ghost use Rattle.hmac.specs.Calls.{fitting, keying, hmac_answer};
 
@@ -51,7 +50,7 @@ pub fn making(size: u32, key: usize, message: usize, room: usize) -> Answer
 
 // What both calls refuse. A success here says only that nothing was refused, and has the number 0, which is no.
 pub fn keying(size: u32, key: usize, message: usize) -> Answer
-    ensures { result ≡ keying size key message (Done 0) }
+    ensures { result ≡ keying size key message (Ok 0) }
 {
     if !refusal::is_known(size) {
         return Answer::Refused(Refusal::Size, 0);

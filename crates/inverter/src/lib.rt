@@ -1,8 +1,7 @@
 // The inverse sheet of a load sheet, which document 02 calls the sheet that goes home.
 #![tactic(auto)]
 
-ghost use Rattle.std.specs.Prelude.{◌≡◌, true, ◌≤◌, length};
-ghost use Rattle.answer.specs.declared.Answer.TheVariants.{Done};
+ghost use Rattle.std.specs.Prelude.{◌≡◌, true, ◌≤◌, length, Ok};
 ghost use Rattle.sheet.specs.SheetAnswer.{sheet_answer};
 ghost use Rattle.inverse.specs.Encoding.{Accepted};
 ghost use Rattle.inverse.specs.Inverse.{inverse_written, room_answer, inverse_answer, inverse_out};
@@ -11,7 +10,7 @@ use answer::{Answer, Refusal};
 
 // What the tests of width and sheet answer: a refusal as a run has it, or the sheet's length.
 fn sheet_answer(width: u32, sheet: &[u8]) -> Answer
-    ensures { let s = sheet.now in result ≡ sheet_answer width true s (Done (length s)) }
+    ensures { let s = sheet.now in result ≡ sheet_answer width true s (Ok (length s)) }
 {
     answer::require(operands::known_width(width), Refusal::Width)?;
     let mut none = [0u16; 0];

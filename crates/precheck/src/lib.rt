@@ -2,7 +2,6 @@
 #![tactic(auto)]
 
 ghost use Rattle.std.specs.Prelude.{◌≡◌, ◌||◌, ◌*◌, eqb};
-ghost use Rattle.answer.specs.declared.Answer.TheVariants.{Done};
 ghost use Rattle.answer.specs.declared.Refusal.TheVariants.{Start};
 ghost use Rattle.answer.specs.Refuse.{unless};
 ghost use Rattle.sheet.specs.Read.{place_count};

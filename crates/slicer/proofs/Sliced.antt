@@ -51,11 +51,11 @@ module _ (c w : ℕ) (s : List ℕ) (i : ℕ) (b : List ℕ) where
     ap (λ (a : Answer). outcome a (vector_bytes w (sliced c w s i (vectors_in w b)).vectors) b) e,
   )
 
-  pub width_refused : (w ≡ 32 → ⊥) → (w ≡ 64 → ⊥) → Ends (Slices.refused_at Width 0) b
+  pub width_refused : (w ≡ 32 → ⊥) → (w ≡ 64 → ⊥) → Ends (refused_at Width 0) b
   width_refused h k = ends (ap (then_start (is_start w s i)) (Ran.width_refused Forward w s b h k).0)
 
   module _ (k : known_width w ≡ true) where
-    pub size_refused : eqb (length b) (place_count * w) ≡ false → Ends (Slices.refused_at Operand 0) b
+    pub size_refused : eqb (length b) (place_count * w) ≡ false → Ends (refused_at Operand 0) b
     size_refused h = ends (ap (then_start (is_start w s i)) (Ran.size_refused Forward w s b k h).0)
 
     -- code found the answer a to the tests of the sheet and the start
@@ -67,7 +67,7 @@ module _ (c w : ℕ) (s : List ℕ) (i : ℕ) (b : List ℕ) where
       tested : a ≡ slice_tests w s i b
       tested = e ∙ ap (then_start (is_start w s i)) found_run
 
-      pub start_refused : (r : Refusal) (at : ℕ) → a ≡ refused_at r at → Ends (Slices.refused_at r at) b
+      pub start_refused : (r : Refusal) (at : ℕ) → a ≡ refused_at r at → Ends (refused_at r at) b
       start_refused r at f = ends (sym f ∙ tested)
 
       module _ {n : ℕ} (f : a ≡ Ok n) where

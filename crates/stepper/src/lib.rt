@@ -21,13 +21,16 @@ pub fn advance(width: u32, sheet: &[u8], start: usize, budget: u16, vectors: &mu
 {
     let mut offset = start;
     let mut units: usize = 0;
-    for _ in 0..budget {
-        let Ok(Some(d)) = reader::read_command(width, sheet, offset) else {
-            break;
-        };
-        effect::apply(width, sheet, d.command, vectors);
-        units += d.units;
-        offset = d.next;
+    for done in 0..budget {
+        match reader::read_command(width, sheet, offset) {
+            Ok(Some(d)) => {
+                effect::apply(width, sheet, d.command, vectors);
+                units += d.units;
+                offset = d.next;
+            }
+            Ok(None) => break,
+            Err(_) => break,
+        }
     }
     Progress { offset, units }
 }

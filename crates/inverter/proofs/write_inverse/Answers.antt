@@ -18,7 +18,7 @@ loop-d-init c = (c.requires.0, started c.args.width c.args.sheet.now c.args.out.
 pub overflow_sub-to : goal.overflow_sub-to
 overflow_sub-to c =
     let a = c.args in
-    let h = got_sound a.width a.sheet.now c.loop-d.at (sym c.read_command.ensures ∙ c.in-Ok-Some.is) in
+    let h = got_sound a.width a.sheet.now c.loop-d.at (was_read c.read_command.ensures c.in-Ok-Some.is c.in-Ok-Some.field-0-is) in
     omega (arith, h.within, c.loop-d.invariant.1.room)
 
 -- Of the command that was read as of the one that undoes it, and of every place that lies in the output: so another command or another place is refused for
@@ -29,7 +29,7 @@ encode-requires c =
     let w = a.width in
     let s = a.sheet.now in
     let d = c.in-Ok-Some.d in
-    let e = sym c.read_command.ensures ∙ c.in-Ok-Some.is in
+    let e = was_read c.read_command.ensures c.in-Ok-Some.is c.in-Ok-Some.field-0-is in
     let h = got_sound w s c.loop-d.at e in
     let own = h.sound in
     let back = subst (SoundCommand w (length s)) (sym c.opposite-back.ensures) (sound_undone place_count w (length s) d.command own) in
@@ -40,7 +40,7 @@ encode-requires c =
 pub loop-d-smaller : goal.loop-d-smaller
 loop-d-smaller c =
     let a = c.args in
-    let h = got_sound a.width a.sheet.now c.loop-d.at (sym c.read_command.ensures ∙ c.in-Ok-Some.is) in
+    let h = got_sound a.width a.sheet.now c.loop-d.at (was_read c.read_command.ensures c.in-Ok-Some.is c.in-Ok-Some.field-0-is) in
     omega (arith, h.on, h.within)
 
 pub loop-d-preserved : goal.loop-d-preserved
@@ -48,7 +48,7 @@ loop-d-preserved c =
     let a = c.args in
     let w = a.width in
     let s = a.sheet.now in
-    let e = sym c.read_command.ensures ∙ c.in-Ok-Some.is in
+    let e = was_read c.read_command.ensures c.in-Ok-Some.is c.in-Ok-Some.field-0-is in
     let h = got_sound w s c.loop-d.at e in
     (c.loop-d.invariant.0, more w s c.loop-d.at _ e c.loop-d.invariant.1 h.within (omega (arith, h.on)) c.opposite-back.ensures c.encode.ensures)
 
