@@ -28,6 +28,7 @@ fn room_answer(size: usize, room: usize) -> Answer
 
 // The inverse of an accepted sheet, to the start of `out`. What undoes a command stands as far from the end as the command from the start, so the sheet is
 // read once, from its start on, and no offsets are remembered.
+#[tactic(auto, using(crate::proofs::Inverting::ended, crate::proofs::Inverting::faulty))]
 fn write_inverse(width: u32, sheet: &[u8], out: &mut [u8])
     requires { Accepted width sheet.now × (length sheet.now ≤ length out.old) }
     ensures { out.new ≡ inverse_written width sheet.now out.old }

@@ -145,20 +145,20 @@ module _ {w : ℕ} {s b r : List ℕ} {size number offset from : ℕ} {state : L
         now = difference (state_by w s b k).offset (recorded w r k) (replayed w s b k)
 
         -- the answer by the test of this record
-        by_test : cond t (first_false (record_count w r - suc k) w s b r (suc k)) (FirstFalse (suc k) now) ≡ first_false (record_count w r) w s b r 0
+        by_test : cond t (first_false (record_count w r - suc k) w s b r (suc k)) (Ok (Some (false_record (suc k) now))) ≡ first_false (record_count w r) w s b r 0
         by_test =
             let one : record_count w r - k ≡ suc (record_count w r - suc k) = omega (arith, one_left) in
-            ap (λ (t : Bool). cond t (first_false (record_count w r - suc k) w s b r (suc k)) (FirstFalse (suc k) now)) test
+            ap (λ (t : Bool). cond t (first_false (record_count w r - suc k) w s b r (suc k)) (Ok (Some (false_record (suc k) now)))) test
             ∙ ap (λ (n : ℕ). first_false n w s b r k) (sym one) ∙ c.rest
 
         pub found_false : t ≡ false → {f : Finding}
             → f ≡ difference offset (record_at w r from) (record_at w last 0)
             → Ok (Some (false_record number f)) ≡ first_false (record_count w r) w s b r 0
         found_false u ef =
-            ap₂ {C = ReplayAnswer} FirstFalse c.numbered
+            ap₂ {C = ReplayAnswer} (λ n f. Ok (Some (false_record n f))) c.numbered
             (ef ∙ ap (λ (o : ℕ). difference o (record_at w r from) (record_at w last 0)) c.offset_is
             ∙ ap₂ {C = Finding} (difference (state_by w s b k).offset) found expected)
-            ∙ ap (λ (t : Bool). cond t (first_false (record_count w r - suc k) w s b r (suc k)) (FirstFalse (suc k) now)) (sym u)
+            ∙ ap (λ (t : Bool). cond t (first_false (record_count w r - suc k) w s b r (suc k)) (Ok (Some (false_record (suc k) now)))) (sym u)
             ∙ by_test
 
         pub goes_on : t ≡ true → length last ≡ length state → Replayed w s b r size (number + 1) next (from + size) last
@@ -175,6 +175,6 @@ module _ {w : ℕ} {s b r : List ℕ} {size number offset from : ℕ} {state : L
               offset_is = next_offset w s b k state c.offset_is c.vectors_are eo;
               vectors_are = next_vectors w s b k state c.offset_is c.vectors_are ev;
               rest =
-                  ap (λ (t : Bool). cond t (first_false (record_count w r - suc k) w s b r (suc k)) (FirstFalse (suc k) now)) (sym u)
+                  ap (λ (t : Bool). cond t (first_false (record_count w r - suc k) w s b r (suc k)) (Ok (Some (false_record (suc k) now)))) (sym u)
                   ∙ by_test;
             }

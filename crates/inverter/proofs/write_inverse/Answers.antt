@@ -5,7 +5,7 @@ use lib.ListN.{length}
 use Rattle.sheet.specs.declared.Command.{Command}
 use Rattle.sheet.specs.Read.{place_count}
 use Rattle.sheet.specs.Sound.{SoundCommand}
-use Rattle.sheet.proofs.Sound.{got_sound}
+use Rattle.sheet.proofs.Sound.{was_read, got_sound}
 use Rattle.sheet.proofs.Undoing.{sound_undone}
 use Rattle.inverse.specs.Encoding.{encoded}
 use Rattle.inverse.proofs.Inverts.{undoing_length}
@@ -51,20 +51,3 @@ loop-d-preserved c =
     let e = was_read c.read_command.ensures c.in-Ok-Some.is c.in-Ok-Some.field-0-is in
     let h = got_sound w s c.loop-d.at e in
     (c.loop-d.invariant.0, more w s c.loop-d.at _ e c.loop-d.invariant.1 h.within (omega (arith, h.on)) c.opposite-back.ensures c.encode.ensures)
-
-pub shape_of-out-in-Err : goal.shape_of-out-in-Err
-shape_of-out-in-Err c = c.loop-d.invariant.1.same
-
-pub returns-in-Err : goal.returns-in-Err
-returns-in-Err c =
-    let a = c.args in
-    faulty a.width a.sheet.now c.loop-d.invariant.1 c.loop-d.invariant.0 c.in-Err.field-0
-    (sym c.read_command.ensures ∙ c.in-Err.is)
-
-pub shape_of-out-in-Ok-None : goal.shape_of-out-in-Ok-None
-shape_of-out-in-Ok-None c = c.loop-d.invariant.1.same
-
-pub returns-in-Ok-None : goal.returns-in-Ok-None
-returns-in-Ok-None c =
-    let a = c.args in
-    ended a.width a.sheet.now c.loop-d.invariant.1 c.loop-d.invariant.0 (sym c.read_command.ensures ∙ c.in-Ok-None.is)
