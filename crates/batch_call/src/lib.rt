@@ -40,10 +40,7 @@ pub fn digests(size: u32, joined: &[u8], lengths: &[u32], out: &mut [u8]) -> Ans
     ensures value { result ≡ batch_answer size (length joined.now) lengths.now (length out.old) }
     ensures out_after { out.new ≡ batch_out size joined.now lengths.now out.old }
 {
-    let answer = batch_check::answer_for(size, joined.len(), lengths, out.len());
-    if !answer::is_done(answer) {
-        return answer;
-    }
+    let written = batch_check::answer_for(size, joined.len(), lengths, out.len())?;
     digest_each(size, joined, lengths, out);
-    answer
+    Ok(written)
 }

@@ -3,23 +3,12 @@
 
 ghost use Rattle.std.specs.Prelude.{◌≡◌, cond, leb, length};
 ghost use Rattle.memory.specs.Lists.{total};
-ghost use Rattle.digest.specs.Kind.{known_size, kind_for};
 ghost use Rattle.batch.specs.Batch.{batch_answer};
 
 use answer::{Answer, Refusal};
 
 // The most messages of one call.
 const MOST: usize = 1024;
-
-// Whether `size` is one of the four.
-fn is_known(size: u32) -> bool
-    ensures { result ≡ known_size (kind_for size) size }
-{
-    if refusal::is_size(384, 512, size as u64) {
-        return true;
-    }
-    refusal::is_size(224, 256, size as u64)
-}
 
 // The sum of the lengths. More than 1,024 are refused whatever they are, so they are not read, and 0 stands for their sum.
 fn total_length(lengths: &[u32]) -> u64
@@ -41,22 +30,10 @@ fn total_length(lengths: &[u32]) -> u64
 pub fn answer_for(size: u32, joined: usize, lengths: &[u32], room: usize) -> Answer
     ensures { result ≡ batch_answer size joined lengths.now room }
 {
-    let known = is_known(size);
-    let sum = total_length(lengths);
-    let few = lengths.len() <= MOST;
-    let whole = sum == joined as u64;
-    if !known {
-        return Answer::Refused(Refusal::Size, 0);
-    }
-    if !few {
-        return Answer::Refused(Refusal::MessageCount, 0);
-    }
-    if !whole {
-        return Answer::Refused(Refusal::JoinedLength, 0);
-    }
+    answer::require(refusal::is_known(size), Refusal::Size)?;
+    answer::require(lengths.len() <= MOST, Refusal::MessageCount)?;
+    answer::require(total_length(lengths) == joined as u64, Refusal::JoinedLength)?;
     let written = lengths.len() * ((size / 8) as usize);
-    if room < written {
-        return Answer::Refused(Refusal::Output, 0);
-    }
-    Answer::Done(written as u64)
+    answer::require(written <= room, Refusal::Output)?;
+    Ok(written as u64)
 }

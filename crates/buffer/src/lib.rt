@@ -13,16 +13,13 @@ pub fn product(width: u32, x: &[u8], y: &[u8], out: &mut [u8]) -> Answer
     ensures value { result ≡ answer_for width x.now y.now out.old }
     ensures out_after { out.new ≡ output_after product width x.now y.now out.old }
 {
-    let r = operands::answer_for(width, x, y, out);
-    if !answer::is_done(r) {
-        return r;
-    }
+    let written = operands::answer_for(width, x, y, out)?;
     if width == 32 {
         buffer32::product(x, y, out);
-        return r;
+    } else {
+        buffer64::product(x, y, out);
     }
-    buffer64::product(x, y, out);
-    r
+    Ok(written)
 }
 
 // a\b, into the first `width` bytes of `out`.
@@ -30,16 +27,13 @@ pub fn left_division(width: u32, a: &[u8], b: &[u8], out: &mut [u8]) -> Answer
     ensures value { result ≡ answer_for width a.now b.now out.old }
     ensures out_after { out.new ≡ output_after left_division width a.now b.now out.old }
 {
-    let r = operands::answer_for(width, a, b, out);
-    if !answer::is_done(r) {
-        return r;
-    }
+    let written = operands::answer_for(width, a, b, out)?;
     if width == 32 {
         buffer32::left_division(a, b, out);
-        return r;
+    } else {
+        buffer64::left_division(a, b, out);
     }
-    buffer64::left_division(a, b, out);
-    r
+    Ok(written)
 }
 
 // b/a, into the first `width` bytes of `out`.
@@ -47,14 +41,11 @@ pub fn right_division(width: u32, b: &[u8], a: &[u8], out: &mut [u8]) -> Answer
     ensures value { result ≡ answer_for width b.now a.now out.old }
     ensures out_after { out.new ≡ output_after right_division width b.now a.now out.old }
 {
-    let r = operands::answer_for(width, b, a, out);
-    if !answer::is_done(r) {
-        return r;
-    }
+    let written = operands::answer_for(width, b, a, out)?;
     if width == 32 {
         buffer32::right_division(b, a, out);
-        return r;
+    } else {
+        buffer64::right_division(b, a, out);
     }
-    buffer64::right_division(b, a, out);
-    r
+    Ok(written)
 }

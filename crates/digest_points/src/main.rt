@@ -23,15 +23,15 @@ fn say_number(rt: &impl Print, n: u64) -> io::Result<()> {
 fn say_answer(rt: &impl Print, what: &[u8], a: Answer) -> io::Result<()> {
     say(rt, what)?;
     match a {
-        Answer::Done(n) => {
+        Ok(n) => {
             say(rt, b": done, ")?;
             say_number(rt, n)?;
         }
-        Answer::Refused(r, at) => {
+        Err(e) => {
             say(rt, b": refused, ")?;
-            say_number(rt, answer::refusal_number(r))?;
+            say_number(rt, answer::refusal_number(e.refusal))?;
             say(rt, b" at ")?;
-            say_number(rt, at as u64)?;
+            say_number(rt, e.offset as u64)?;
         }
     }
     say(rt, b"\n")

@@ -67,11 +67,11 @@ pub fn report(records: &[u8], out: &mut [u8]) -> usize
 {
     let mut counts = [0u16; 1024];
     match distances::flipped_bits(records, &mut counts) {
-        Answer::Done(sum) => {
+        Ok(sum) => {
             let n = records.len() / 64;
             let at = push_lines(out, &counts[..n]);
             push_total(out, at, sum)
         }
-        Answer::Refused(r, _) => push_refusal(out, r),
+        Err(e) => push_refusal(out, e.refusal),
     }
 }

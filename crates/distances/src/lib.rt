@@ -12,10 +12,7 @@ use answer::{Answer, Refusal};
 fn whole_pairs(n: usize) -> bool
     ensures { result ≡ whole_pairs n }
 {
-    if n % 64 != 0 {
-        return false;
-    }
-    n <= 65536
+    n % 64 == 0 && n <= 65536
 }
 
 // In how many bits the word at `at`, of a record's first digest, and that of its second differ.
@@ -65,13 +62,7 @@ pub fn flipped_bits(records: &[u8], counts: &mut [u16]) -> Answer
     ensures value { result ≡ flipped_answer records.now (length counts.old) }
     ensures counts_after { counts.new ≡ counts_after records.now counts.old }
 {
-    let whole = whole_pairs(records.len());
-    let room = records.len() / 64 <= counts.len();
-    if !whole {
-        return Answer::Refused(Refusal::Pairs, 0);
-    }
-    if !room {
-        return Answer::Refused(Refusal::Output, 0);
-    }
-    Answer::Done(count_records(records, counts))
+    answer::require(whole_pairs(records.len()), Refusal::Pairs)?;
+    answer::require(records.len() / 64 <= counts.len(), Refusal::Output)?;
+    Ok(count_records(records, counts))
 }

@@ -34,27 +34,18 @@ pub fn hmac(size: u32, key: &[u8], message: &[u8], out: &mut [u8]) -> Answer
     ensures value { result ≡ hmac_answer size (length key.now) (length message.now) (length out.old) }
     ensures out_after { out.new ≡ hmac_out size key.now message.now out.old }
 {
-    let answer = hmac_check::making(size, key.len(), message.len(), out.len());
-    if !answer::is_done(answer) {
-        return answer;
-    }
+    let written = hmac_check::making(size, key.len(), message.len(), out.len())?;
     write_tag(size, key, message, out);
-    answer
+    Ok(written)
 }
 
 // Whether `tag` is that tag: 1, which is yes, or 0.
 pub fn verify(size: u32, key: &[u8], message: &[u8], tag: &[u8]) -> Answer
     ensures { result ≡ verify_answer size key.now message.now tag.now }
 {
-    let answer = hmac_check::keying(size, key.len(), message.len());
-    if !answer::is_done(answer) {
-        return answer;
-    }
+    hmac_check::keying(size, key.len(), message.len())?;
     let mut expected = [0u8; 64];
     write_tag(size, key, message, &mut expected);
     let bytes = (size / 8) as usize;
-    if equality::same(tag, &expected[..bytes]) {
-        return Answer::Done(1);
-    }
-    Answer::Done(0)
+    Ok(equality::same(tag, &expected[..bytes]) as u64)
 }

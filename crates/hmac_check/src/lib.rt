@@ -23,40 +23,24 @@ fn is_fitting(size: u32, key: usize, message: usize) -> bool
     ensures { result ≡ fitting size key message }
 {
     let most = LIMIT - block_length(size) as u64;
-    if LIMIT < key as u64 {
-        return false;
-    }
-    message as u64 <= most
+    key as u64 <= LIMIT && message as u64 <= most
 }
 
-// The three tests are locals, so that the order of the refusals is the order of the three ifs and nothing else.
+// What the call that makes a tag answers.
 pub fn making(size: u32, key: usize, message: usize, room: usize) -> Answer
     ensures { result ≡ hmac_answer size key message room }
 {
-    let known = refusal::is_known(size);
-    let fits = is_fitting(size, key, message);
-    let short = refusal::is_short(size as u64, room);
-    if !known {
-        return Answer::Refused(Refusal::Size, 0);
-    }
-    if !fits {
-        return Answer::Refused(Refusal::Length, 0);
-    }
-    if short {
-        return Answer::Refused(Refusal::Output, 0);
-    }
-    Answer::Done((size / 8) as u64)
+    answer::require(refusal::is_known(size), Refusal::Size)?;
+    answer::require(is_fitting(size, key, message), Refusal::Length)?;
+    answer::require(!refusal::is_short(size as u64, room), Refusal::Output)?;
+    Ok((size / 8) as u64)
 }
 
 // What both calls refuse. A success here says only that nothing was refused, and has the number 0, which is no.
 pub fn keying(size: u32, key: usize, message: usize) -> Answer
     ensures { result ≡ keying size key message (Ok 0) }
 {
-    if !refusal::is_known(size) {
-        return Answer::Refused(Refusal::Size, 0);
-    }
-    if is_fitting(size, key, message) {
-        return Answer::Done(0);
-    }
-    Answer::Refused(Refusal::Length, 0)
+    answer::require(refusal::is_known(size), Refusal::Size)?;
+    answer::require(is_fitting(size, key, message), Refusal::Length)?;
+    Ok(0)
 }

@@ -12,16 +12,13 @@ pub fn forward(width: u32, pipe: &mut [u8], block: &[u8]) -> Answer
     ensures value { result ≡ step_answer width block.now pipe.old }
     ensures pipe_after { pipe.new ≡ step_bytes Forward width block.now pipe.old }
 {
-    let r = operands::step::answer_for(width, pipe, block);
-    if !answer::is_done(r) {
-        return r;
-    }
+    let written = operands::step::answer_for(width, pipe, block)?;
     if width == 32 {
         block32::step_in(pipe, block);
-        return r;
+    } else {
+        block64::step_in(pipe, block);
     }
-    block64::step_in(pipe, block);
-    r
+    Ok(written)
 }
 
 // The pipe before the block, in its place.
@@ -29,14 +26,11 @@ pub fn backward(width: u32, pipe: &mut [u8], block: &[u8]) -> Answer
     ensures value { result ≡ step_answer width block.now pipe.old }
     ensures pipe_after { pipe.new ≡ step_bytes Backward width block.now pipe.old }
 {
-    let r = operands::step::answer_for(width, pipe, block);
-    if !answer::is_done(r) {
-        return r;
-    }
+    let written = operands::step::answer_for(width, pipe, block)?;
     if width == 32 {
         block32::step_back_in(pipe, block);
-        return r;
+    } else {
+        block64::step_back_in(pipe, block);
     }
-    block64::step_back_in(pipe, block);
-    r
+    Ok(written)
 }

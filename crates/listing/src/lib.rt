@@ -10,7 +10,7 @@ ghost use Rattle.listing.specs.Listing.{places as places_of};
 ghost use Rattle.text.specs.Pushed.{Pushed};
 
 use answer::Refusal;
-use sheet::{Command, Places, Read, Summary};
+use sheet::{Command, Places};
 
 // A listing takes no more bytes than this: 68 for a command, of which there are 2,048 at most, and 64 for the last line, with each number
 // counted as 20 digits.
@@ -84,6 +84,7 @@ fn push_line(out: &mut [u8], at: usize, offset: usize, c: Command) -> usize
 }
 
 // The lines of a sheet's commands, up to its end or its first fault.
+#[tactic(auto, using(crate::proofs::Lines::lines_fault, crate::proofs::Lines::lines_end))]
 fn push_lines(width: u32, sheet: &[u8], out: &mut [u8]) -> usize
     requires { length sheet.now ≤ 4096 }
     ensures fact { let s = sheet.now in Pushed out.old 0 (lines width s (scan_from (length s) width s 0).offsets) out.new result }
@@ -91,17 +92,11 @@ fn push_lines(width: u32, sheet: &[u8], out: &mut [u8]) -> usize
 {
     let mut next = 0;
     let mut at = 0;
-    loop {
-        match reader::read_command(width, sheet, at) {
-            Read::Got(d) => {
-                let c = d.command;
-                next = push_line(out, next, at, c);
-                at = d.next;
-            }
-            Read::Fault(_) => return next,
-            Read::End => return next,
-        }
+    while let Ok(Some(d)) = reader::read_command(width, sheet, at) {
+        next = push_line(out, next, at, d.command);
+        at = d.next;
     }
+    next
 }
 
 // The last line of a listing: `size` is the sheet's length in bytes, `count` the number of its commands.
@@ -134,10 +129,10 @@ pub fn list(width: u32, sheet: &[u8], out: &mut [u8]) -> usize
 {
     let mut none = [0u16; 0];
     match scanner::check(width, sheet, &mut none) {
-        Summary::Whole(count, _) => {
+        Ok(counts) => {
             let at = push_lines(width, sheet, out);
-            push_end(out, at, sheet.len(), count)
+            push_end(out, at, sheet.len(), counts.commands)
         }
-        Summary::Faulty(r, at) => push_refused(out, r, at),
+        Err(e) => push_refused(out, e.refusal, e.offset),
     }
 }

@@ -92,7 +92,7 @@ pub fn open(size: u32) -> Outcome
     ensures { result ≡ opened size }
 {
     let answer = refusal::opening(224, 256, size as u64);
-    if !answer::is_done(answer) {
+    if answer.is_err() {
         let pipe = Pipe32 {
             first: [0; 8],
             second: [0; 8],
@@ -122,7 +122,7 @@ pub fn feed(hash: Narrow, bytes: &[u8]) -> Outcome
     let size = hash.size;
     let total = hash.total;
     let answer = refusal::feeding(224, 256, size, total, bytes.len());
-    if !answer::is_done(answer) {
+    if answer.is_err() {
         return Outcome {
             answer,
             state: hash,
@@ -163,7 +163,7 @@ pub fn finish(hash: Narrow, last: u8, count: u32, out: &mut [u8]) -> Answer
     let size = hash.size;
     let total = hash.total;
     let answer = refusal::finishing(224, 256, size, total, count, out.len());
-    if !answer::is_done(answer) {
+    if answer.is_err() {
         return answer;
     }
     let at = (total % 64) as usize;
@@ -182,7 +182,7 @@ pub fn digest(size: u32, message: &[u8], out: &mut [u8]) -> Answer
     ensures out_after { out.new ≡ digest_out narrow_kind size message.now out.old }
 {
     let answer = refusal::digesting(224, 256, size as u64, message.len(), out.len());
-    if !answer::is_done(answer) {
+    if answer.is_err() {
         return answer;
     }
     let q = block32::steps(block32::start(size), message);

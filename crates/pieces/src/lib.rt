@@ -30,10 +30,7 @@ pub struct WidePiece {
 fn narrow_outcome(answer: Answer, new: Narrow, old: Narrow) -> Narrow
     ensures { result ≡ outcome answer new old }
 {
-    if !answer::is_done(answer) {
-        return old;
-    }
-    new
+    if answer.is_ok() { new } else { old }
 }
 
 // A narrow hash of `size` bits is opened where `hash` stands, which a refusal leaves as it was.
@@ -78,10 +75,7 @@ pub fn narrow_finish_bits(hash: Narrow, last: u8, count: u32, out: &mut [u8]) ->
 fn wide_outcome(answer: Answer, new: Wide, old: Wide) -> Wide
     ensures { result ≡ outcome answer new old }
 {
-    if !answer::is_done(answer) {
-        return old;
-    }
-    new
+    if answer.is_ok() { new } else { old }
 }
 
 // A wide hash of `size` bits is opened where `hash` stands, which a refusal leaves as it was.

@@ -9,15 +9,15 @@ use std::io;
 
 fn print_answer(rt: &impl Print, a: Answer) -> io::Result<()> {
     match a {
-        Answer::Done(n) => {
+        Ok(n) => {
             rt.write_all(b"done ")?;
             rt.print(n)?;
         }
-        Answer::Refused(r, at) => {
+        Err(e) => {
             rt.write_all(b"refused ")?;
-            rt.print(answer::refusal_number(r))?;
+            rt.print(answer::refusal_number(e.refusal))?;
             rt.write_all(b" ")?;
-            rt.print(at as u64)?;
+            rt.print(e.offset as u64)?;
         }
     }
     rt.write_all(b"\n")

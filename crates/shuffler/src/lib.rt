@@ -72,12 +72,9 @@ pub fn shuffle(width: u32, records: &[u8], out: &mut [u8]) -> Answer
     ensures out_after { out.new ≡ shuffle_out width records.now out.old }
     ensures fits { Fits (2 ^ 63) result }
 {
-    let r = operands::records::answer_for(width, records, out);
-    if !answer::is_done(r) {
-        return r;
-    }
+    let written = operands::records::answer_for(width, records, out)?;
     shuffle_records(width, records, out);
-    r
+    Ok(written)
 }
 
 // The shuffled records, as they were, to the start of `out`; what stands behind them in `out` stays. The answer fits the number that C receives.
@@ -86,10 +83,7 @@ pub fn unshuffle(width: u32, records: &[u8], out: &mut [u8]) -> Answer
     ensures out_after { out.new ≡ unshuffle_out width records.now out.old }
     ensures fits { Fits (2 ^ 63) result }
 {
-    let r = operands::records::answer_for(width, records, out);
-    if !answer::is_done(r) {
-        return r;
-    }
+    let written = operands::records::answer_for(width, records, out)?;
     restore_records(width, records, out);
-    r
+    Ok(written)
 }

@@ -11,50 +11,26 @@ fn narrow_digest(size: u32, first: &[u8], second: &[u8], out: &mut [u8]) -> Answ
     ensures value { result ≡ digest_answer narrow_kind size (first.now ++ second.now) out.old }
     ensures out_after { out.new ≡ digest_out narrow_kind size (first.now ++ second.now) out.old }
 {
-    let o = narrow::open(size);
-    let opening = o.answer;
-    if !answer::is_done(opening) {
-        return opening;
-    }
-    let opened = o.state;
-    let f = narrow::feed(opened, first);
-    let feeding = f.answer;
-    if !answer::is_done(feeding) {
-        return feeding;
-    }
-    let begun = f.state;
-    let g = narrow::feed(begun, second);
-    let more = g.answer;
-    if !answer::is_done(more) {
-        return more;
-    }
-    let fed = g.state;
-    narrow::finish(fed, 0, 0, out)
+    let opened = narrow::open(size);
+    opened.answer?;
+    let begun = narrow::feed(opened.state, first);
+    begun.answer?;
+    let fed = narrow::feed(begun.state, second);
+    fed.answer?;
+    narrow::finish(fed.state, 0, 0, out)
 }
 
 fn wide_digest(size: u32, first: &[u8], second: &[u8], out: &mut [u8]) -> Answer
     ensures value { result ≡ digest_answer wide_kind size (first.now ++ second.now) out.old }
     ensures out_after { out.new ≡ digest_out wide_kind size (first.now ++ second.now) out.old }
 {
-    let o = wide::open(size);
-    let opening = o.answer;
-    if !answer::is_done(opening) {
-        return opening;
-    }
-    let opened = o.state;
-    let f = wide::feed(opened, first);
-    let feeding = f.answer;
-    if !answer::is_done(feeding) {
-        return feeding;
-    }
-    let begun = f.state;
-    let g = wide::feed(begun, second);
-    let more = g.answer;
-    if !answer::is_done(more) {
-        return more;
-    }
-    let fed = g.state;
-    wide::finish(fed, 0, 0, out)
+    let opened = wide::open(size);
+    opened.answer?;
+    let begun = wide::feed(opened.state, first);
+    begun.answer?;
+    let fed = wide::feed(begun.state, second);
+    fed.answer?;
+    wide::finish(fed.state, 0, 0, out)
 }
 
 // What the one call answers and writes for `first` and then `second`.

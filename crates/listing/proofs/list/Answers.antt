@@ -8,22 +8,22 @@ use Rattle.listing.proofs.list.Goals as goal
 pub push_lines-at-requires : goal.push_lines-at-requires
 push_lines-at-requires c =
     let a = c.args in
-    short a.width a.sheet.now (sym c.in-Whole.is ∙ c.check.ensures.value)
+    short a.width a.sheet.now (sym c.in-Ok.is ∙ c.check.ensures.value)
 
-pub returns-in-Whole : goal.returns-in-Whole
-returns-in-Whole c =
+pub returns-in-Ok : goal.returns-in-Ok
+returns-in-Ok c =
     let a = c.args in
-    let f = finished (then c.push_lines-at.ensures.fact c.push_end.ensures.pushed) (listed_whole a.width a.sheet.now (sym c.in-Whole.is ∙ c.check.ensures.value)) in
+    let f = finished (then c.push_lines-at.ensures.fact c.push_end.ensures.pushed) (listed_whole a.width a.sheet.now (sym c.in-Ok.is ∙ c.check.ensures.value)) in
     record {
       out_after = f.0;
       value = f.1;
       upper_bound = omega (arith, c.push_lines-at.ensures.upper_bound, c.push_end.ensures.upper_bound);
     }
 
-pub returns-in-Erry : goal.returns-in-Erry
-returns-in-Erry c =
+pub returns-in-Err : goal.returns-in-Err
+returns-in-Err c =
     let a = c.args in
-    let f = finished c.push_refused.ensures.pushed (listed_faulty a.width a.sheet.now c.in-Erry.r c.in-Erry.at (sym c.in-Erry.is ∙ c.check.ensures.value)) in
+    let f = finished c.push_refused.ensures.pushed (listed_faulty a.width a.sheet.now c.in-Err.e.refusal c.in-Err.e.offset (sym c.in-Err.is ∙ c.check.ensures.value)) in
     record {
       out_after = f.0;
       value = f.1;
