@@ -1,10 +1,10 @@
 -- What two equal results have in common, and what `?` goes by and hands on.
-use Rattle.std.specs.Prelude.{◌≡◌, ℕ, Bool, true, false, Result, Ok, Err, IsErr, IsErrAnd}
+use Rattle.std.specs.Prelude.{◌≡◌, ℕ, Bool, true, false, Result, Ok, Err, IsErr, IsErrAnd, not, is_err}
 use Rattle.std.proofs.Common.{refl, ap, arith}
-use Rattle.answer.specs.Answer.{refused_at}
+use Rattle.answer.specs.Answer.{Answer, refused_at}
 use Rattle.answer.specs.declared.Refusal.{Refusal}
 use Rattle.answer.specs.declared.Refused.{Refused}
-use Rattle.answer.specs.Refuse.{passed}
+use Rattle.answer.specs.Refuse.{passed, is_done}
 
 module _ {A : Type 0} where
   pub ok_one : {x y : A} → ◌≡◌ {A = Result A Refused} (Ok x) (Ok y) → x ≡ y
@@ -33,3 +33,12 @@ held false q e = let z : ◌≡◌ {A = ℕ} 0 1 = cc in absurd (omega arith)
 pub failed : (t : Bool) (q : Refusal) {x : Refused} → ◌≡◌ {A = Result (Unit {0}) Refused} (Err x) (passed t q) → (t ≡ false) × (x ≡ record { refusal = q; offset = 0 })
 failed true q e = let z : ◌≡◌ {A = ℕ} 0 1 = cc in absurd (omega arith)
 failed false q e = (refl, err_one e)
+
+-- what the library's test of a result tells of an answer
+pub erred : (a : Answer) {t : Bool} → t ≡ is_err a → t ≡ true → not (is_done a) ≡ true
+erred (Ok n) e f = let z : ◌≡◌ {A = ℕ} 0 1 = cc in absurd (omega arith)
+erred (Err x) e f = refl
+
+pub went : (a : Answer) {t : Bool} → t ≡ is_err a → t ≡ false → not (is_done a) ≡ false
+went (Ok n) e f = refl
+went (Err x) e f = let z : ◌≡◌ {A = ℕ} 0 1 = cc in absurd (omega arith)

@@ -162,10 +162,7 @@ pub fn finish(hash: Narrow, last: u8, count: u32, out: &mut [u8]) -> Answer
 {
     let size = hash.size;
     let total = hash.total;
-    let answer = refusal::finishing(224, 256, size, total, count, out.len());
-    if answer.is_err() {
-        return answer;
-    }
+    let length = refusal::finishing(224, 256, size, total, count, out.len())?;
     let at = (total % 64) as usize;
     let p = hash.pipe;
     let w = hash.waiting;
@@ -173,7 +170,7 @@ pub fn finish(hash: Narrow, last: u8, count: u32, out: &mut [u8]) -> Answer
     let bits = padding::bit_length(total, count);
     let q = close(p, &w[..at], mark, bits);
     block32::write(q, (size / 8) as usize, out);
-    answer
+    Ok(length)
 }
 
 // The digest of `message`, to the start of `out`, for this kind's sizes.
@@ -181,13 +178,10 @@ pub fn digest(size: u32, message: &[u8], out: &mut [u8]) -> Answer
     ensures value { result ≡ digest_answer narrow_kind size message.now out.old }
     ensures out_after { out.new ≡ digest_out narrow_kind size message.now out.old }
 {
-    let answer = refusal::digesting(224, 256, size as u64, message.len(), out.len());
-    if answer.is_err() {
-        return answer;
-    }
+    let length = refusal::digesting(224, 256, size as u64, message.len(), out.len())?;
     let q = block32::steps(block32::start(size), message);
     let from = message.len() / 64 * 64;
     let r = close(q, &message[from..], 0x80, 8 * (message.len() as u64));
     block32::write(r, (size / 8) as usize, out);
-    answer
+    Ok(length)
 }
