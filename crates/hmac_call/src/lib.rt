@@ -25,8 +25,8 @@ fn write_tag(size: u32, key: &[u8], message: &[u8], out: &mut [u8])
     let inner = hmac_key::padded(k, INNER);
     let outer = hmac_key::padded(k, OUTER);
     let mut digest = [0u8; 64];
-    two_parts::digest(size, &inner[..block], message, &mut digest);
-    two_parts::digest(size, &outer[..block], &digest[..bytes], out);
+    let _ = two_parts::digest(size, &inner[..block], message, &mut digest);
+    let _ = two_parts::digest(size, &outer[..block], &digest[..bytes], out);
 }
 
 // The tag of `message` under `key`, of `size` bits, to the start of `out`; what stands behind it in `out` stays.

@@ -20,7 +20,7 @@ pub fn key_block(size: u32, block: usize, key: &[u8]) -> [u8; 128]
     }
     let bytes = (size / 8) as usize;
     let mut digest = [0u8; 64];
-    one_call::digest(size, key, &mut digest);
+    let _ = one_call::digest(size, key, &mut digest);
     memory::copy_at(&mut k, 0, &digest[..bytes]);
     k
 }
