@@ -41,6 +41,7 @@ pub fn keying(size: u32, key: usize, message: usize) -> Answer
     ensures { result ≡ keying size key message (Ok 0) }
 {
     answer::require(refusal::is_known(size), Refusal::Size)?;
-    answer::require(is_fitting(size, key, message), Refusal::Length)?;
+    let fits = is_fitting(size, key, message);
+    answer::require(fits, Refusal::Length)?;
     Ok(0)
 }
