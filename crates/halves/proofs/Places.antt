@@ -6,7 +6,10 @@ use native.Mathlib.Nat.{add-mod-mod}
 use native.Mathlib.Omega.{arith}
 use lib.Bits.{bit_xor, xor_zero_r, xor_self}
 use lib.ListN.{length, get_or}
-use Rattle.memory.proofs.Lists.{word, spread}
+use Rattle.std.specs.List.{All}
+use Rattle.std.proofs.lemmas.List.Elements.{All-get_or}
+use Rattle.std.proofs.lemmas.List.{get_or_default}
+use Rattle.memory.proofs.Lists.{word, from_at, spread}
 use Rattle.memory.proofs.Eight.{eight}
 use Rattle.word.specs.Word.{plus, minus, times, inverse, rotl}
 use Rattle.quasigroup.specs.Product.{pick, both, first, sum, xor, rotations}
@@ -15,35 +18,66 @@ use Rattle.tables.specs.Places.{unxor_places}
 use Rattle.halves.specs.Balance.{balance, two_fifths}
 use Rattle.halves.proofs.Balance.{balance_nil, balance_plus, balance_minus, sum_cons, sum_one}
 
-five_wrapped : (w a b c d e k : ℕ) → (a + (b + (c + (d + (e + k) % 2 ^ w) % 2 ^ w) % 2 ^ w) % 2 ^ w) % 2 ^ w ≡ sum w k (a ∷ b ∷ c ∷ d ∷ e ∷ [])
-unfolding sum
+five_wrapped : (w a b c d e k : ℕ) → plus w a (plus w b (plus w c (plus w d (plus w e k)))) ≡ sum w k (a ∷ b ∷ c ∷ d ∷ e ∷ [])
+unfolding sum plus
 five_wrapped w a b c d e k =
     let e : a + (b + (c + (d + (e + k)))) ≡ a + (b + (c + (d + (e + 0)))) + k = omega arith in
     simp add-mod-mod (ap (λ n. n % 2 ^ w) e)
 
--- five sums that wrap: the sum of five words and a constant
-pub five_summed : (w k : ℕ) (p v : List ℕ) → length p ≡ 5
-    → (word v p 0 + (word v p 1 + (word v p 2 + (word v p 3 + (word v p 4 + k) % 2 ^ w) % 2 ^ w) % 2 ^ w) % 2 ^ w) % 2 ^ w ≡ sum w k (pick p v)
-five_summed w k p v l =
-    five_wrapped w (word v p 0) (word v p 1) (word v p 2) (word v p 3) (word v p 4) k ∙ ap (λ (q : List ℕ). sum w k (pick q v)) (spread 5 p l)
+-- The word that code reads by number i of p, whatever it stands for where there is none.
+module _ (v p : List ℕ) (l : length v ≡ 8) (below : All (λ n. n < 8) p) where
+  read : (i d : ℕ) → i < length p → get_or v (get_or p i 0) d ≡ word v p i
+  read i d h = get_or_default v (get_or p i 0) d 0 (rw l (All-get_or (λ n. n < 8) p i 0 h below))
+
+  -- five sums that wrap: the sum of five words and a constant
+  pub five_summed : (w k a b c d e : ℕ) {last two three four all : ℕ} → length p ≡ 5
+      → last ≡ plus w (get_or v (get_or p 4 0) e) k → two ≡ plus w (get_or v (get_or p 3 0) d) last
+      → three ≡ plus w (get_or v (get_or p 2 0) c) two → four ≡ plus w (get_or v (get_or p 1 0) b) three
+      → all ≡ plus w (get_or v (get_or p 0 0) a) four → all ≡ sum w k (pick p v)
+  five_summed w k a b c d e n q4 q3 q2 q1 q0 =
+      q0
+      ∙ ap₂ (plus w) (read 0 a (omega arith))
+      (q1 ∙ ap₂ (plus w) (read 1 b (omega arith))
+      (q2 ∙ ap₂ (plus w) (read 2 c (omega arith))
+      (q3 ∙ ap₂ (plus w) (read 3 d (omega arith)) (q4 ∙ ap (λ x. plus w x k) (read 4 e (omega arith))))))
+      ∙ five_wrapped w (word v p 0) (word v p 1) (word v p 2) (word v p 3) (word v p 4) k
+      ∙ ap (λ (q : List ℕ). sum w k (pick q v)) (spread 5 p n)
+
+  pub three_combined : (a b c : ℕ) {y x : ℕ} → length p ≡ 3 → y ≡ bit_xor (get_or v (get_or p 1 0) b) (get_or v (get_or p 2 0) c)
+      → x ≡ bit_xor (get_or v (get_or p 0 0) a) y → x ≡ xor (pick p v)
+  unfolding xor
+  three_combined a b c n q r =
+      r
+      ∙ ap₂ bit_xor (read 0 a (omega arith))
+      (q ∙ ap₂ bit_xor (read 1 b (omega arith)) (read 2 c (omega arith) ∙ sym (xor_zero_r (word v p 2))))
+      ∙ ap (λ (q : List ℕ). xor (pick q v)) (spread 3 p n)
 
 -- rotated sum i, by row i of the tables
 abbrev rotated_sum : ℕ → ℕ → List ℕ → List (List ℕ) → List ℕ → ℕ → ℕ
 rotated_sum w k rs P v i = rotl w (get_or rs i 0) (sum w k (pick (get_or P i []) v))
 
--- Eight rotated sums. Each is held against its own row, so that a wrong word number or constant is seen by itself.
-pub eight_sums : (w c : ℕ) (rs : List ℕ) (P : List (List ℕ)) (v : List ℕ) {t0 t1 t2 t3 t4 t5 t6 t7 : ℕ}
-    → t0 ≡ rotated_sum w c rs P v 0 → t1 ≡ rotated_sum w 0 rs P v 1 → t2 ≡ rotated_sum w 0 rs P v 2 → t3 ≡ rotated_sum w 0 rs P v 3
-    → t4 ≡ rotated_sum w 0 rs P v 4 → t5 ≡ rotated_sum w 0 rs P v 5 → t6 ≡ rotated_sum w 0 rs P v 6 → t7 ≡ rotated_sum w 0 rs P v 7
-    → ◌≡◌ {A = List ℕ}
-    (t0 ∷ t1 ∷ t2 ∷ t3 ∷ t4 ∷ t5 ∷ t6 ∷ t7 ∷ [])
-    (rotated_sum w c rs P v 0 ∷ map (rotated_sum w 0 rs P v) (1 ∷ 2 ∷ 3 ∷ 4 ∷ 5 ∷ 6 ∷ 7 ∷ []))
-eight_sums w c rs P v e0 e1 e2 e3 e4 e5 e6 e7 = eight e0 e1 e2 e3 e4 e5 e6 e7
+-- eight sums, the constant in the first
+abbrev eight_rows : ℕ → ℕ → ℕ → List (List ℕ) → List ℕ → List ℕ
+eight_rows w k z P v = sum w k (pick (get_or P 0 []) v) ∷ map (λ i. sum w z (pick (get_or P i []) v)) (1 ∷ 2 ∷ 3 ∷ 4 ∷ 5 ∷ 6 ∷ 7 ∷ [])
 
-pub three_combined : (p v : List ℕ) → length p ≡ 3 → bit_xor (word v p 0) (bit_xor (word v p 1) (word v p 2)) ≡ xor (pick p v)
-unfolding xor
-three_combined p v l =
-    sym (ap (λ n. bit_xor (word v p 0) (bit_xor (word v p 1) n)) (xor_zero_r (word v p 2))) ∙ ap (λ (q : List ℕ). xor (pick q v)) (spread 3 p l)
+-- Eight rotated sums, by the code's amounts and constants. Each is held against its own row, so that a wrong word number or constant is seen by itself.
+pub eight_sums : (w c : ℕ) (rs : List ℕ) (P : List (List ℕ)) (v : List ℕ) {r : List ℕ} {k z t0 t1 t2 t3 t4 t5 t6 t7 : ℕ} → length r ≡ 8 → r ≡ rs → k ≡ c → z ≡ 0
+    → t0 ≡ rotated_sum w k r P v 0 → t1 ≡ rotated_sum w z r P v 1 → t2 ≡ rotated_sum w z r P v 2 → t3 ≡ rotated_sum w z r P v 3
+    → t4 ≡ rotated_sum w z r P v 4 → t5 ≡ rotated_sum w z r P v 5 → t6 ≡ rotated_sum w z r P v 6 → t7 ≡ rotated_sum w z r P v 7
+    → ◌≡◌ {A = List ℕ} (t0 ∷ t1 ∷ t2 ∷ t3 ∷ t4 ∷ t5 ∷ t6 ∷ t7 ∷ []) (rotations w rs (eight_rows w c 0 P v))
+eight_sums w c rs P v {r} {k} {z} l er ek ez e0 e1 e2 e3 e4 e5 e6 e7 =
+    eight e0 e1 e2 e3 e4 e5 e6 e7 ∙ ap (λ (q : List ℕ). rotations w q (eight_rows w k z P v)) (spread 8 r l ∙ er)
+    ∙ ap (λ n. rotations w rs (eight_rows w n z P v)) ek ∙ ap (λ n. rotations w rs (eight_rows w c n P v)) ez
+
+-- eight words, read where they stand
+pub eight_read : (v : List ℕ) (a b c d e f g h : ℕ) → length v ≡ 8
+    → ◌≡◌ {A = List ℕ} (get_or v 0 a ∷ get_or v 1 b ∷ get_or v 2 c ∷ get_or v 3 d ∷ get_or v 4 e ∷ get_or v 5 f ∷ get_or v 6 g ∷ get_or v 7 h ∷ []) v
+eight_read v a b c d e f g h l =
+    eight (at 0 a (omega arith)) (at 1 b (omega arith)) (at 2 c (omega arith)) (at 3 d (omega arith)) (at 4 e (omega arith)) (at 5 f (omega arith)) (at 6 g (omega arith)) (at 7 h (omega arith))
+    ∙ spread 8 v l
+  where
+    at : (i d : ℕ) → i < 8 → get_or v i d ≡ get_or v i 0
+    at i d h = get_or_default v i d 0 (rw l h)
 
 pub five_combined : (p v : List ℕ) → length p ≡ 5
     → bit_xor (word v p 0) (bit_xor (word v p 1) (bit_xor (word v p 2) (bit_xor (word v p 3) (word v p 4)))) ≡ xor (pick p v)
