@@ -1,11 +1,10 @@
-use mathlib.Core.Path.{◌∙◌}
+use Rattle.std.proofs.Common.{◌∙◌, rules}
 use Rattle.memory.proofs.Eight.{eight}
 use Rattle.halves.proofs.Balance.{unsummed, left_rows}
-use borrow.Author.Rules.{rules}
-use Rattle.division32.proofs.left_unsummed.Goals as goal
+use Rattle.division.proofs.left_unsummed.Goals as goal
 
 pub returns : goal.returns
-returns c =
+returns g c =
     eight
     c.unsummed.ensures
     c.unsummed-2.ensures
@@ -15,4 +14,4 @@ returns c =
     c.unsummed-6.ensures
     c.unsummed-7.ensures
     c.unsummed-8.ensures
-    ∙ unsummed 32 c.args.s (search rules) left_rows _ c.two_fifths-u.ensures
+    ∙ unsummed g.U.Width.tables.bits c.args.s (search rules) left_rows _ c.two_fifths-u.ensures

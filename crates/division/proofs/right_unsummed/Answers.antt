@@ -1,11 +1,10 @@
-use mathlib.Core.Path.{◌∙◌}
+use Rattle.std.proofs.Common.{◌∙◌, rules}
 use Rattle.memory.proofs.Eight.{eight}
 use Rattle.halves.proofs.Balance.{unsummed, right_rows}
-use borrow.Author.Rules.{rules}
-use Rattle.division32.proofs.right_unsummed.Goals as goal
+use Rattle.division.proofs.right_unsummed.Goals as goal
 
 pub returns : goal.returns
-returns c =
+returns g c =
     eight
     c.less_three.ensures
     c.less_three-2.ensures
@@ -15,4 +14,4 @@ returns c =
     c.less_three-6.ensures
     c.less_three-7.ensures
     c.less_three-8.ensures
-    ∙ unsummed 32 c.args.s (search rules) right_rows _ c.two_fifths-u.ensures
+    ∙ unsummed g.U.Width.tables.bits c.args.s (search rules) right_rows _ c.two_fifths-u.ensures

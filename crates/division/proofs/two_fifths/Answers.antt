@@ -1,25 +1,18 @@
-use mathlib.Core.Path.{◌≡◌}
-use Prim.Native.Nat.{ℕ}
-use mir.Val.{Fits}
-use mir.Syntax.{w32}
-use lib.ListN.{get_or}
-use Rattle.quasigroup.specs.Product.{sum}
+use Rattle.std.proofs.Common.{◌∙◌, ap, rules}
+use Rattle.word.specs.Word.{inverse}
 use Rattle.halves.proofs.Places.{eight_summed, two_fifths_is}
-use borrow.Author.Rules.{rules}
-use Rattle.division32.proofs.two_fifths.Goals as goal
+use Rattle.division.proofs.two_fifths.Goals as goal
 
 pub returns : goal.returns
-returns c =
+returns g c =
     let s = c.args.s in
-    let f : (i : ℕ) → Fits w32 (get_or s i 0) = λ i. search rules in
-    let t : c.add32-all.result ≡ sum 32 0 s =
-    rw (
-      c.add32-all.ensures,
-      c.add32-5.ensures,
-      c.add32-4.ensures,
-      c.add32-3.ensures,
-      c.add32-four.ensures,
-      c.add32-2.ensures,
-      c.add32.ensures,
-    ) (eight_summed 32 s (f 7).fits (search rules)) in
-    two_fifths_is 32 s c.inverse32.ensures t c.multiply32-fifth.ensures c.add32-6.ensures
+    let w = g.U.Unsigned.width in
+    rw g.met.U.Width.same_width
+    (two_fifths_is w s
+    (c.inverse.ensures ∙ ap (inverse w) c.from_u8.ensures)
+    (eight_summed w s
+    c.index-s-0.result c.index-s-1.result c.index-s-2.result c.index-s-3.result c.index-s-4.result c.index-s-5.result c.index-s-6.result c.index-s-7.result
+    (search rules)
+    c.wrapping_add.ensures c.wrapping_add-2.ensures c.wrapping_add-four.ensures c.wrapping_add-3.ensures c.wrapping_add-4.ensures c.wrapping_add-three.ensures
+    c.wrapping_add-all.ensures)
+    c.wrapping_mul-fifth.ensures c.wrapping_add-5.ensures)

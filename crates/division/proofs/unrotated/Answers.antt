@@ -1,12 +1,17 @@
-use mathlib.Core.Path.{ap, ◌∙◌}
+use Rattle.std.proofs.Common.{◌∙◌, ◌-◌, ap, rules}
 use Rattle.word.specs.Word.{minus, rotl}
-use Prim.Native.Nat.{◌-◌}
 use Rattle.halves.proofs.Places.{five_combined}
-use borrow.Author.Rules.{rules}
-use Rattle.division32.proofs.unrotated.Goals as goal
+use Rattle.division.proofs.unrotated.Goals as goal
 
 pub returns : goal.returns
-returns c =
+returns g c =
     let a = c.args in
-    c.subtract32.ensures
-    ∙ ap (λ x. minus 32 x a.k) (c.rotate_right32.ensures ∙ ap (rotl 32 (32 - a.r)) (five_combined a.p a.z (search rules)))
+    let w = g.U.Unsigned.width in
+    rw g.met.U.Width.same_width
+    (c.wrapping_sub.ensures
+    ∙ ap (λ x. minus w x a.k)
+    (c.rotate_right.ensures
+    ∙ ap (rotl w (w - a.r))
+    (five_combined a.z a.p (search rules) c.requires.numbers
+    c.index-z-a.result c.index-z-b.result c.index-z-c.result c.index-z-d.result c.index-z-e.result (search rules)
+    c.bitxor.ensures c.bitxor-2.ensures c.bitxor-3.ensures c.bitxor-4.ensures)))

@@ -1,16 +1,13 @@
+use Rattle.std.proofs.Common.{rules}
 use Rattle.halves.proofs.Places.{balanced}
-use borrow.Author.Rules.{rules}
-use Rattle.division32.proofs.unsummed.Goals as goal
+use Rattle.division.proofs.unsummed.Goals as goal
 
 pub returns : goal.returns
-returns c =
+returns g c =
     let a = c.args in
-    rw (
-      c.add32-2.ensures,
-      c.add32.ensures,
-      c.subtract32-rest.ensures,
-      c.subtract32-3.ensures,
-      c.subtract32-less.ensures,
-      c.subtract32-2.ensures,
-      c.subtract32.ensures,
-    ) (balanced 32 a.u a.p a.n a.s (search rules) (search rules) (search rules))
+    rw g.met.U.Width.same_width
+    (balanced g.U.Unsigned.width a.u a.p a.n a.s
+    c.index-s-a.result c.index-s-b.result c.index-s-c.result c.index-s-d.result c.index-s-e.result c.index-s-f.result c.index-s-g.result
+    (search rules) c.requires.added c.requires.taken_away (search rules) (search rules)
+    c.wrapping_sub.ensures c.wrapping_sub-2.ensures c.wrapping_sub-less.ensures c.wrapping_sub-3.ensures c.wrapping_sub-rest.ensures
+    c.wrapping_add.ensures c.wrapping_add-2.ensures)

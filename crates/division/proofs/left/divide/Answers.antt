@@ -1,6 +1,6 @@
 use Rattle.quasigroup.specs.Division.{left_division}
-use Rattle.division32.proofs.left.divide.Goals as goal
+use Rattle.division.proofs.left.divide.Goals as goal
 
 pub returns : goal.returns
 unfolding left_division
-returns c = cc
+returns g c = cc
