@@ -1,28 +1,51 @@
-// The pipe on words of 32 bits, and a block forward and back, on values.
+// The pipe, and a block forward and back, on values.
 #![tactic(auto)]
 
 ghost use Rattle.std.specs.Prelude.{◌≡◌};
-ghost use Rattle.quasigroup.specs.Tables.{width32};
 ghost use Rattle.digest.specs.Step.{forward};
 ghost use Rattle.pipe.specs.Backward.{backward};
-ghost use Rattle.compression32.specs.Pipes.{pipe32};
 
-use division32::{left, right, right_undone, separated};
-use half32::{barred_left_half, left_half, right_half};
-use product32::{barred_product, joined, product};
+use division::{left, right, right_undone, separated};
+use half::{barred_left_half, left_half, right_half};
+use product::{barred_product, joined, product};
+use std::alloc::AllocError;
+use std::marker::Model;
+use tables::Width;
+use word::{Unsigned, Word};
 
-// Words 0 to 7 and words 8 to 15.
-#[repr(C)]
-#[derive(Clone, Copy)]
-pub struct Pipe32 {
-    pub first: [u32; 8],
-    pub second: [u32; 8],
+// Words 0 to 7 and words 8 to 15. Contracts see it as the definitions' pipe.
+#[derive(Copy)]
+pub struct Pipe<U: Unsigned> {
+    pub first: [Word<U>; 8],
+    pub second: [Word<U>; 8],
+}
+
+impl<U: Unsigned> Model for Pipe<U> {
+    ghost use Rattle.digest.specs.Pipe as digest;
+
+    ghost Value = { digest.Pipe };
+
+    ghost view = { λ p. record { first = p.first; second = p.second } };
+
+    ghost inverse = { λ p. record { first = p.first; second = p.second } };
+}
+
+impl<U: Unsigned> Clone for Pipe<U> {
+    ghost use Rattle.std.specs.Prelude.{◌≡◌, ⊤};
+
+    ghost is_clone = { λ x y. y ≡ x };
+
+    ghost is_infallible = { λ _. ⊤ };
+
+    fn clone(&self) -> Result<Pipe<U>, AllocError> {
+        Ok(*self)
+    }
 }
 
 // The pipe after a block whose halves are `x` and `y`: the products of the definition by their halves. D1 and D7, whose first operand is barred, are
 // barred products. D4 and D5 share the left half of D3, and D6 and D7 the right half of D5.
-pub fn forward(p: Pipe32, x: [u32; 8], y: [u32; 8]) -> Pipe32
-    ensures { pipe32 result ≡ forward width32 (pipe32 p) x y }
+pub fn forward<U: Width>(p: Pipe<U>, x: [Word<U>; 8], y: [Word<U>; 8]) -> Pipe<U>
+    ensures { result ≡ forward U.tables p x y }
 {
     let c0 = p.second;
     let c1 = p.first;
@@ -36,7 +59,7 @@ pub fn forward(p: Pipe32, x: [u32; 8], y: [u32; 8]) -> Pipe32
     let d6 = joined(left_half(d4), right);
     let d7 = joined(barred_left_half(x), right);
     let d8 = joined(left_half(d7), right_half(d6));
-    Pipe32 {
+    Pipe {
         first: d7,
         second: d8,
     }
@@ -44,8 +67,8 @@ pub fn forward(p: Pipe32, x: [u32; 8], y: [u32; 8]) -> Pipe32
 
 // The pipe before a block whose halves are `x` and `y`, by the products and divisions of the definition. Only D5, whose divisor is barred, is put
 // together from its parts: the barred left half, and the right half undone.
-pub fn backward(p: Pipe32, x: [u32; 8], y: [u32; 8]) -> Pipe32
-    ensures { pipe32 result ≡ backward width32 (pipe32 p) x y }
+pub fn backward<U: Width>(p: Pipe<U>, x: [Word<U>; 8], y: [Word<U>; 8]) -> Pipe<U>
+    ensures { result ≡ backward U.tables p x y }
 {
     let d7 = p.first;
     let d8 = p.second;
@@ -57,7 +80,7 @@ pub fn backward(p: Pipe32, x: [u32; 8], y: [u32; 8]) -> Pipe32
     let d3 = right::divide(d4, d2);
     let c0 = right::divide(d3, d1);
     let c1 = left::divide(d3, d5);
-    Pipe32 {
+    Pipe {
         first: c1,
         second: c0,
     }

@@ -1,5 +1,6 @@
-use Rattle.halves.proofs.Halves.{barred_left_half_lem}
+use Rattle.quasigroup.specs.Barred.{barred_left_half}
 use Rattle.half.proofs.barred_left_half.Goals as goal
 
 pub returns : goal.returns
-returns g c = barred_left_half_lem g.U.Width.tables _ c.barred_left_sums.ensures c.left_combinations.ensures
+unfolding barred_left_half
+returns g c = cc

@@ -1,5 +1,6 @@
-use Rattle.halves.proofs.Halves.{left_half_lem}
+use Rattle.quasigroup.specs.Product.{left_half}
 use Rattle.half.proofs.left_half.Goals as goal
 
 pub returns : goal.returns
-returns g c = left_half_lem g.U.Width.tables c.words.ensures c.left_sums.ensures c.left_combinations.ensures
+unfolding left_half
+returns g c = cc

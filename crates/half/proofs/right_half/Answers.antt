@@ -1,5 +1,6 @@
-use Rattle.halves.proofs.Halves.{right_half_lem}
+use Rattle.quasigroup.specs.Product.{right_half}
 use Rattle.half.proofs.right_half.Goals as goal
 
 pub returns : goal.returns
-returns g c = right_half_lem g.U.Width.tables c.words.ensures c.right_sums.ensures c.right_combinations.ensures
+unfolding right_half
+returns g c = cc
