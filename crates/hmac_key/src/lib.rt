@@ -29,11 +29,5 @@ pub fn key_block(size: u32, block: usize, key: &[u8]) -> [u8; 128]
 pub fn padded(k: [u8; 128], pad: u8) -> [u8; 128]
     ensures { result ≡ xored k (replicate 128 pad) }
 {
-    let mut r = k;
-    let mut i: usize = 0;
-    while i < 128 {
-        r[i] = k[i] ^ pad;
-        i += 1;
-    }
-    r
+    k.map(|byte| byte ^ pad)
 }
