@@ -26,8 +26,11 @@ pub fn key_block(size: u32, block: usize, key: &[u8]) -> [u8; 128]
 }
 
 // Each byte by exclusive or with `pad`.
-pub fn padded(k: [u8; 128], pad: u8) -> [u8; 128]
+pub fn padded(mut k: [u8; 128], pad: u8) -> [u8; 128]
     ensures { result ≡ xored k (replicate 128 pad) }
 {
-    k.map(|byte| byte ^ pad)
+    for byte in &mut k {
+        *byte ^= pad;
+    }
+    k
 }
