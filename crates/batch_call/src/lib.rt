@@ -1,20 +1,12 @@
 // The digests of many messages in one call.
 #![tactic(auto)]
 
-ghost use Rattle.std.specs.Prelude.{◌≡◌, ◌++◌, ◌≤◌, ◌<◌, length, drop};
+ghost use Rattle.std.specs.Prelude.{◌≡◌, ◌++◌, ◌≤◌, length, drop};
 ghost use Rattle.memory.specs.Lists.{total};
 ghost use Rattle.digest.specs.Kind.{Known};
 ghost use Rattle.batch.specs.Batch.{messages, digests, digests_length, batch_answer, batch_out};
 
 use answer::Answer;
-
-// A length as a number of bytes.
-fn byte_count(length: u32) -> usize
-    ensures value { result ≡ length }
-    ensures upper_bound { result < 4294967296 }
-{
-    length as usize
-}
 
 // The digest of each message, to its place in `out`: the one call is lent the part of `out` that starts there.
 fn digest_each(size: u32, joined: &[u8], lengths: &[u32], out: &mut [u8])
@@ -25,13 +17,11 @@ fn digest_each(size: u32, joined: &[u8], lengths: &[u32], out: &mut [u8])
 {
     let bytes = (size / 8) as usize;
     let mut from: usize = 0;
-    let mut k: usize = 0;
-    while k < lengths.len() {
-        let to = from + byte_count(lengths[k]);
+    for (k, length) in lengths.iter().enumerate() {
+        let to = from + *length as usize;
         let at = k * bytes;
         let _ = one_call::digest(size, &joined[from..to], &mut out[at..]);
         from = to;
-        k += 1;
     }
 }
 

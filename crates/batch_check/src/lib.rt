@@ -18,10 +18,8 @@ fn total_length(lengths: &[u32]) -> u64
         return 0;
     }
     let mut sum: u64 = 0;
-    let mut i: usize = 0;
-    while i < lengths.len() {
-        sum += lengths[i] as u64;
-        i += 1;
+    for length in lengths {
+        sum += *length as u64;
     }
     sum
 }

@@ -7,6 +7,7 @@ ghost use Rattle.memory.specs.Lists.{bytes_at, total};
 ghost use Rattle.hamming.specs.Counts.{pair_count, flipped_counts, whole_pairs, flipped_answer, counts_after};
 
 use answer::{Answer, Refusal};
+use lent_words::LentWord;
 
 // Whether records may have `n` bytes.
 fn whole_pairs(n: usize) -> bool
@@ -21,9 +22,9 @@ fn word_distance(s: &[u8], at: usize) -> u32
     ensures result_value { let t = s.now in result ≡ distance (bytes_at 8 t at) (bytes_at 8 t (at + 32)) }
     ensures upper_bound { result ≤ 64 }
 {
-    let x = memory64::load(s, at);
-    let y = memory64::load(s, at + 32);
-    u64::count_ones(x ^ y)
+    let x = u64::load(s, at);
+    let y = u64::load(s, at + 32);
+    (x ^ y).count_ones()
 }
 
 // In how many bits the digests of the record at `at` differ.
@@ -47,12 +48,10 @@ fn count_records(records: &[u8], counts: &mut [u16]) -> u64
 {
     let n = records.len() / 64;
     let mut sum: u64 = 0;
-    let mut k: usize = 0;
-    while k < n {
+    for k in 0..n {
         let count = record_distance(records, 64 * k);
         counts[k] = count as u16;
         sum += count as u64;
-        k += 1;
     }
     sum
 }

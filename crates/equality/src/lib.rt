@@ -11,11 +11,5 @@ pub fn same(a: &[u8], b: &[u8]) -> bool
     if a.len() != b.len() {
         return false;
     }
-    let mut bits: u8 = 0;
-    let mut i: usize = 0;
-    while i < a.len() {
-        bits = bits | (a[i] ^ b[i]);
-        i += 1;
-    }
-    bits == 0
+    a.iter().zip(b).fold(0, |bits, (x, y)| bits | (x ^ y)) == 0
 }

@@ -1,59 +1,42 @@
--- The code's comparison of two lists of one length: the bits in which the first i bytes differ, put together. None is set exactly where those bytes are the same.
-use mathlib.Core.Path.{◌≡◌, refl, ap, ap₂, sym, subst, ◌∙◌}
-use mathlib.Core.Bool.{false}
-use mathlib.Core.List.{List, [], ◌∷◌, ◌++◌}
-use Prim.Native.Nat.{ℕ, suc, ◌+◌, ◌≤◌, ◌<◌}
-use native.Mathlib.Numerals.{add-one}
+-- The bits in which two lists of one length differ, put together: none is set exactly where the lists are the same.
+use mathlib.Core.Path.{◌≡◌, ap, sym, ◌∙◌}
+use mathlib.Core.Bool.{false, ◌&&◌}
+use mathlib.Core.List.{List, [], ◌∷◌}
+use Prim.Native.Nat.{ℕ}
 use native.Mathlib.Omega.{arith}
 use borrow.Author.Tests.{eq-eqb, eqb-true}
 use lib.Bits.{bit_or, bit_xor, xor_self}
 use lib.Dec.{eqb}
-use lib.ListN.{length, get_or, take}
-use lib.Seq.{take-suc, take-take, take-length, get_or-take}
+use lib.ListN.{length}
+use Rattle.std.proofs.lemmas.Bool.{ne_eqb}
+use Rattle.std.specs.List.{fold, zip}
 use Rattle.answer.proofs.Tests.{decide}
 use Rattle.memory.proofs.Differing.{none_left, none_right, none_both, no_difference}
 use Rattle.hmac.specs.Calls.{same}
-use Rattle.hmac.proofs.Same.{equal_same, unequal_same}
+use Rattle.hmac.proofs.Same.{unequal_same}
 
 -- lists of different lengths are not the same
 pub other_length : (a b : List ℕ) → (length a ≡ length b → ⊥) → false ≡ same a b
 other_length a b n = sym (unequal_same a b (λ e. n (ap length e)))
 
-pub record Compared (a b : List ℕ) (i bits : ℕ) : Type 0 where
-  pub within : i ≤ length a
-  pub long : length a ≡ length b
-  pub equal : bits ≡ 0 → take i a ≡ take i b
-  pub none : take i a ≡ take i b → bits ≡ 0
+-- a number with the bits in which two more numbers differ
+abbrev pub with_difference : ℕ → ℕ × ℕ → ℕ
+with_difference bits p = bit_or bits (bit_xor p.0 p.1)
 
-pub none_compared : (a b : List ℕ) → length a ≡ length b → Compared a b 0 0
-none_compared a b e = record { within = omega arith; long = e; equal = λ _. refl; none = λ _. refl }
-
-next_compared : {a b : List ℕ} {i bits : ℕ} → Compared a b i bits → i < length a → Compared a b (suc i) (bit_or bits (bit_xor (get_or a i 0) (get_or b i 0)))
-next_compared {a} {b} {i} {bits} c h =
-    let x = get_or a i 0 in
-    let y = get_or b i 0 in
-    let k : i < length b = omega (arith, c.long) in
-    record {
-      within = h;
-      long = c.long;
-      equal = λ z. take-suc a i 0 h
-          ∙ ap₂ {C = List ℕ} (λ (s : List ℕ) (d : ℕ). s ++ (d ∷ [])) (c.equal (none_left bits (bit_xor x y) z)) (no_difference x y (none_right bits (bit_xor x y) z))
-          ∙ sym (take-suc b i 0 k);
-      none = λ e.
-          let s : take i a ≡ take i b = sym (take-take i (suc i) a (omega arith)) ∙ ap (take i) e ∙ take-take i (suc i) b (omega arith) in
-          let d : x ≡ y = sym (get_or-take (suc i) a i 0 (omega arith)) ∙ ap (λ (l : List ℕ). get_or l i 0) e ∙ get_or-take (suc i) b i 0 (omega arith) in
-          none_both bits (bit_xor x y) (c.none s) (ap (bit_xor x) (sym d) ∙ xor_self x);
-    }
-
-pub one_compared : {a b : List ℕ} {i bits : ℕ} → Compared a b i bits → i < length a → Compared a b (i + 1) (bit_or bits (bit_xor (get_or a i 0) (get_or b i 0)))
-one_compared {a} {b} {i} {bits} c h =
-    subst (λ (j : ℕ). Compared a b j (bit_or bits (bit_xor (get_or a i 0) (get_or b i 0)))) (sym (add-one i)) (next_compared c h)
-
-pub all_compared : {a b : List ℕ} {i bits : ℕ} → Compared a b i bits → length a ≤ i → eqb bits 0 ≡ same a b
-all_compared {a} {b} {i} {bits} c h =
-    let j : i ≡ length a = omega (arith, c.within) in
-    let p : take i a ≡ a = ap (λ (n : ℕ). take n a) j ∙ take-length a in
-    let q : take i b ≡ b = ap (λ (n : ℕ). take n b) (j ∙ c.long) ∙ take-length b in
+one_compared : (bits x y : ℕ) → eqb (with_difference bits (x, y)) 0 ≡ eqb bits 0 && eqb x y
+one_compared bits x y =
+    let d = bit_xor x y in
     decide (eqb bits 0)
-    (λ t. t ∙ sym (equal_same a b (sym p ∙ c.equal (eqb-true bits 0 t) ∙ q)))
-    (λ t. t ∙ sym (unequal_same a b (λ e. let z = eq-eqb bits 0 (c.none (p ∙ e ∙ sym q)) in let w : ◌≡◌ {A = ℕ} 0 1 = cc in omega arith)))
+    (λ z. decide (eqb x y)
+    (λ e. eq-eqb (bit_or bits d) 0 (none_both bits d (eqb-true bits 0 z) (ap (bit_xor x) (sym (eqb-true x y e)) ∙ xor_self x)) ∙ rw (z, e))
+    (λ n. ne_eqb (bit_or bits d) 0 (λ o. let w = eq-eqb x y (no_difference x y (none_right bits d o)) in cc) ∙ rw (z, n)))
+    (λ n. ne_eqb (bit_or bits d) 0 (λ o. let w = eq-eqb bits 0 (none_left bits d o) in cc) ∙ rw n)
+
+pub all_compared : (bits : ℕ) (a b : List ℕ) → length a ≡ length b → eqb (fold with_difference bits (zip a b)) 0 ≡ eqb bits 0 && same a b
+unfolding same
+all_compared bits [] [] e = decide (eqb bits 0) (λ t. rw t) (λ t. rw t)
+all_compared bits [] (y ∷ b) e = absurd (omega arith)
+all_compared bits (x ∷ a) [] e = absurd (omega arith)
+all_compared bits (x ∷ a) (y ∷ b) e =
+    all_compared (with_difference bits (x, y)) a b (omega arith) ∙ ap (λ t. t && same a b) (one_compared bits x y)
+    ∙ decide (eqb bits 0) (λ t. rw t) (λ t. rw t)

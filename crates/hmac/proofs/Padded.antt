@@ -7,7 +7,7 @@ use native.Mathlib.Numerals.{add-one}
 use native.Mathlib.Omega.{arith}
 use lib.Bits.{bit_xor}
 use lib.ListN.{length, get_or, set, take, drop, replicate, length-append, length-map, length-replicate, replicate-append-replicate}
-use lib.Seq.{take-suc, drop-cons, set_at, take_at, drop_at, take-length, drop-length, take-append-add, length-take-le, append_snoc}
+use lib.Seq.{take-suc, drop-cons, get_or_at, set_at, take_at, drop_at, take-length, drop-length, take-append-add, length-take-le, append_snoc}
 use Rattle.digest.specs.Blocks.{filled}
 use Rattle.digest.specs.Kind.{Known}
 use Rattle.digest.specs.Refusals.{limit}
@@ -100,16 +100,17 @@ module _ (pad : ℕ) where
   map-append [] t = refl
   map-append (x ∷ s) t = ap (λ (l : List ℕ). bit_xor x pad ∷ l) (map-append s t)
 
-  pub one_padded : {s r : List ℕ} {i : ℕ} → Padded s i r → i < length s → Padded s (i + 1) (set r i (bit_xor (get_or s i 0) pad))
+  pub one_padded : {s r : List ℕ} {i : ℕ} → Padded s i r → i < length s → Padded s (i + 1) (set r i (bit_xor (get_or r i 0) pad))
   one_padded {s} {r} {i} p h =
       let x = get_or s i 0 in
       let y = bit_xor x pad in
       let l : length (by_pad (take i s)) ≡ i = length-map (take i s) (λ x. bit_xor x pad) ∙ length-take-le i s p.within in
+      let r_is : r ≡ by_pad (take i s) ++ x ∷ drop (suc i) s = p.stands ∙ ap (λ (q : List ℕ). by_pad (take i s) ++ q) (drop-cons s i 0 h) in
+      let x_is : get_or r i 0 ≡ x = ap (λ (q : List ℕ). get_or q i 0) r_is ∙ get_or_at (by_pad (take i s)) x (drop (suc i) s) 0 i l in
       let e : set r i y ≡ by_pad (take i s) ++ y ∷ drop (suc i) s =
-      ap (λ (q : List ℕ). set q i y) (p.stands ∙ ap (λ (q : List ℕ). by_pad (take i s) ++ q) (drop-cons s i 0 h))
-      ∙ set_at (by_pad (take i s)) x (drop (suc i) s) y i l in
+      ap (λ (q : List ℕ). set q i y) r_is ∙ set_at (by_pad (take i s)) x (drop (suc i) s) y i l in
       let f : by_pad (take (suc i) s) ≡ by_pad (take i s) ++ (y ∷ []) = ap by_pad (take-suc s i 0 h) ∙ map-append (take i s) (x ∷ []) in
-      rw (add-one i) record {
+      rw (add-one i, x_is) record {
         within = h;
         stands = e ∙ sym (append_snoc (by_pad (take i s)) y (drop (suc i) s)) ∙ ap (λ (q : List ℕ). q ++ drop (suc i) s) (sym f);
       }

@@ -26,14 +26,11 @@ pub fn key_block(size: u32, block: usize, key: &[u8]) -> [u8; 128]
 }
 
 // Each byte by exclusive or with `pad`.
-pub fn padded(k: [u8; 128], pad: u8) -> [u8; 128]
+pub fn padded(mut k: [u8; 128], pad: u8) -> [u8; 128]
     ensures { result ≡ xored k (replicate 128 pad) }
 {
-    let mut r = k;
-    let mut i: usize = 0;
-    while i < 128 {
-        r[i] = k[i] ^ pad;
-        i += 1;
+    for byte in &mut k {
+        *byte ^= pad;
     }
-    r
+    k
 }

@@ -4,6 +4,8 @@
 ghost use Rattle.std.specs.Prelude.{◌≡◌, ◌++◌, ◌+◌, ◌*◌, ◌^◌, ◌<◌, ◌≤◌, length, take, replicate};
 ghost use Rattle.digest.specs.Padding.{ending, marked};
 
+use lent_words::LentWord;
+
 // At the start of `buf`, which is zeros: the pending bytes `w`, the byte of the one bit, zeros and the length in bits. The answer is how many
 // bytes that is, one block or two.
 pub fn tail(buf: &mut [u8], w: &[u8], block: usize, mark: u8, bits: u64) -> usize
@@ -15,12 +17,11 @@ pub fn tail(buf: &mut [u8], w: &[u8], block: usize, mark: u8, bits: u64) -> usiz
     memory::copy_at(buf, w.len(), &m);
     if w.len() + 9 <= block {
         let at = block - 8;
-        memory64::store(buf, at, bits);
+        bits.store(buf, at);
         return block;
     }
     let size = block + block;
-    let at = size - 8;
-    memory64::store(buf, at, bits);
+    bits.store(buf, size - 8);
     size
 }
 

@@ -11,11 +11,9 @@ pub fn shuffle(s: &[u8], out: &mut [u8], k: usize, q: usize, times: usize)
     requires s_len { (length s.now ≡ 64 * k) × (64 * k ≤ length out.old) }
     ensures { out.new ≡ transposed 64 k s.now ++ drop (64 * k) out.old }
 {
-    let mut g = 0;
-    while g < 64 {
+    for g in (0..64).step_by(q) {
         let x = tile::load(s, k * g, 128, 1, 128);
         tile::store(out, g, 64, tile::transpose(x, times), k, q);
-        g += q;
     }
 }
 
@@ -25,10 +23,8 @@ pub fn restore(s: &[u8], out: &mut [u8], k: usize, q: usize, times: usize)
     requires s_len { (length s.now ≡ 64 * k) × (64 * k ≤ length out.old) }
     ensures { out.new ≡ transposed k 64 s.now ++ drop (64 * k) out.old }
 {
-    let mut g = 0;
-    while g < 64 {
+    for g in (0..64).step_by(q) {
         let x = tile::load(s, g, 64, k, q);
         tile::store(out, k * g, 128, tile::transpose(x, times), 1, 128);
-        g += q;
     }
 }

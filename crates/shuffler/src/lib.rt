@@ -41,12 +41,10 @@ fn shuffle_records(width: u32, records: &[u8], out: &mut [u8])
 {
     let n = 8 * (width as usize);
     let count = records.len() / n;
-    let mut i = 0;
-    while i < count {
+    for i in 0..count {
         let at = i * n;
         let end = at + n;
         shuffle_record(width, &records[at..end], &mut out[at..]);
-        i += 1;
     }
 }
 
@@ -57,12 +55,10 @@ fn restore_records(width: u32, records: &[u8], out: &mut [u8])
 {
     let size = 8 * (width as usize);
     let count = records.len() / size;
-    let mut i = 0;
-    while i < count {
+    for i in 0..count {
         let from = i * size;
         let to = from + size;
         restore_record(width, &records[from..to], &mut out[from..]);
-        i += 1;
     }
 }
 

@@ -2,12 +2,16 @@
 // Where code reads a table it reads the constant, which is folded into it. The function beside each constant says what the table is.
 #![tactic(auto)]
 
+mod width;
+
 ghost use Rattle.std.specs.Prelude.{◌≡◌, [], ◌∷◌, map};
 ghost use Rattle.quasigroup.specs.Tables.{left_sums, right_sums, amounts};
 ghost use Rattle.quasigroup.specs.Product.{others};
 ghost use Rattle.quasigroup.specs.Barred.{barred_left_sums};
 ghost use Rattle.digest.specs.Start.{start224, start256, start384, start512};
 ghost use Rattle.tables.specs.Places.{unxor_places, plus_places, minus_places};
+
+pub use width::Width;
 
 // The rotation amounts: two rows a width, over X and over Y.
 pub const AMOUNTS: [[u32; 8]; 4] = [

@@ -33,10 +33,8 @@ pub fn push_text(out: &mut [u8], at: usize, text: &[u8]) -> usize
     ensures { Pushed out.old at text.now out.new result }
 {
     let mut next = at;
-    let mut i = 0;
-    while i < text.len() {
-        next = push(out, next, text[i]);
-        i += 1;
+    for byte in text {
+        next = push(out, next, *byte);
     }
     next
 }

@@ -11,12 +11,8 @@ fn copy_strided(out: &mut [u8], o: usize, e: usize, s: &[u8], i: usize, d: usize
     requires { Inside k 1 o e (length out.old) × Inside k 1 i d (length s.now) }
     ensures { out.new ≡ strided_copy k s.now i d out.old o e }
 {
-    let mut j = 0;
-    while j < k {
-        let a = o + j * e;
-        let b = i + j * d;
-        out[a] = s[b];
-        j += 1;
+    for j in 0..k {
+        out[o + j * e] = s[i + j * d];
     }
 }
 
@@ -26,10 +22,8 @@ pub fn load(s: &[u8], i: usize, d: usize, k: usize, q: usize) -> [u8; 128]
     ensures { result ≡ rows_copy k q s.now i d (zeros 128) 0 q }
 {
     let mut r = [0u8; 128];
-    let mut n = 0;
-    while n < q {
+    for n in 0..q {
         copy_strided(&mut r, n, q, s, i + n, d, k);
-        n += 1;
     }
     r
 }
@@ -39,14 +33,9 @@ fn interleave(x: [u8; 128]) -> [u8; 128]
     ensures { result ≡ transposed 2 64 x }
 {
     let mut r = [0u8; 128];
-    let mut n = 0;
-    while n < 64 {
-        let m = n + 64;
-        let p = 2 * n;
-        let q = p + 1;
-        r[p] = x[n];
-        r[q] = x[m];
-        n += 1;
+    for n in 0..64 {
+        r[2 * n] = x[n];
+        r[2 * n + 1] = x[n + 64];
     }
     r
 }
@@ -57,11 +46,9 @@ pub fn transpose(x: [u8; 128], times: usize) -> [u8; 128]
     ensures { result ≡ transposed (2 ^ times) (2 ^ (7 - times)) x }
 {
     let mut r = x;
-    let mut n = 0;
-    while n < times {
+    for _ in 0..times {
         let next = interleave(r);
         r = next;
-        n += 1;
     }
     r
 }
@@ -71,9 +58,7 @@ pub fn store(out: &mut [u8], o: usize, e: usize, x: [u8; 128], k: usize, q: usiz
     requires { (k * q ≡ 128) × Inside k q o e (length out.old) }
     ensures { out.new ≡ rows_copy k q x 0 q out.old o e }
 {
-    let mut n = 0;
-    while n < q {
+    for n in 0..q {
         copy_strided(out, o + n, e, &x, n, q, k);
-        n += 1;
     }
 }

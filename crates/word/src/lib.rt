@@ -1,114 +1,157 @@
-// Words of 32 and of 64 bits: sums, differences and products that wrap, inverses of odd words, rotations.
+// Words of w bits: sums, differences and products that wrap, inverses of odd words, rotations.
 #![tactic(auto)]
 
-ghost use Rattle.std.specs.Prelude.{◌≡◌, ◌-◌, ◌%◌, ◌<◌};
+mod unsigned;
+
+ghost use Rattle.std.specs.Prelude.{◌≡◌, ◌-◌, ◌%◌, ◌<◌, ℕ, map, ⊤};
+ghost use Rattle.std.specs.Int.Bits.{bit_xor};
+ghost use Rattle.std.proofs.Common.{ap};
 ghost use Rattle.word.specs.Word.{plus, minus, times, newton, inverse, rotl};
 
-// The sum of `a` and `b` modulo 2^32.
-pub fn add32(a: u32, b: u32) -> u32
-    ensures { result ≡ plus 32 a b }
-{
-    std::num::wrapping_add_u32(a, b)
+use std::alloc::AllocError;
+use std::marker::Model;
+use std::ops::BitXor;
+pub use unsigned::Unsigned;
+
+// A word. Contracts see it as its number.
+#[derive(Copy)]
+pub struct Word<U: Unsigned> {
+    bits: U,
 }
 
-// `a` less `b` modulo 2^32.
-pub fn subtract32(a: u32, b: u32) -> u32
-    ensures { result ≡ minus 32 a b }
-{
-    std::num::wrapping_sub_u32(a, b)
+impl<U: Unsigned> Model for Word<U> {
+    ghost Value = { ℕ };
+
+    ghost view = { λ x. U.number x.bits };
+
+    ghost inverse = { λ n. record { bits = U.of_number n } };
+
+    ghost inverse_ok = { λ a h. ap (λ b. record { bits = b }) (U.given_back a.bits) };
 }
 
-// The product of `a` and `b` modulo 2^32.
-pub fn multiply32(a: u32, b: u32) -> u32
-    ensures { result ≡ times 32 a b }
-{
-    (((a as u64) * (b as u64)) % 4294967296) as u32
+impl<U: Unsigned> Clone for Word<U> {
+    ghost is_clone = { λ x y. y ≡ x };
+
+    ghost is_infallible = { λ _. ⊤ };
+
+    fn clone(&self) -> Result<Word<U>, AllocError> {
+        Ok(*self)
+    }
 }
 
-// Twice as many low bits of the inverse of `a`, from the low bits in `x`.
-fn newton32(a: u32, x: u32) -> u32
-    ensures { result ≡ newton 32 a x }
-{
-    multiply32(x, subtract32(2, multiply32(a, x)))
+impl<U: Unsigned> BitXor for Word<U> {
+    type Output = Word<U>;
+
+    ghost bitxor_gives = { λ a b r. r ≡ bit_xor a b };
+
+    fn bitxor(self, other: Word<U>) -> Word<U> {
+        Word {
+            bits: self.bits.bitxor(other.bits),
+        }
+    }
 }
 
-// The inverse of an odd `a` modulo 2^32. An odd word is its own inverse in three bits, and each step doubles them.
-pub fn inverse32(a: u32) -> u32
-    requires { a % 2 ≡ 1 }
-    ensures { result ≡ inverse 32 a }
-{
-    newton32(a, newton32(a, newton32(a, newton32(a, a))))
+impl<U: Unsigned> Word<U> {
+    pub fn new(bits: U) -> Word<U>
+        ensures { result ≡ U.number bits }
+    {
+        Word { bits }
+    }
+
+    pub fn bits(self) -> U
+        ensures { U.number result ≡ self }
+    {
+        self.bits
+    }
+
+    // The word with a small number.
+    pub fn from_u8(n: u8) -> Word<U>
+        ensures { result ≡ n }
+    {
+        Word::new(U::from_u8(n))
+    }
+
+    // The sum modulo 2^w.
+    pub fn wrapping_add(self, other: Word<U>) -> Word<U>
+        ensures { result ≡ plus U.width self other }
+    {
+        Word::new(self.bits.wrapping_add(other.bits))
+    }
+
+    // `self` less `other` modulo 2^w.
+    pub fn wrapping_sub(self, other: Word<U>) -> Word<U>
+        ensures { result ≡ minus U.width self other }
+    {
+        Word::new(self.bits.wrapping_sub(other.bits))
+    }
+
+    // The product modulo 2^w.
+    pub fn wrapping_mul(self, other: Word<U>) -> Word<U>
+        ensures { result ≡ times U.width self other }
+    {
+        Word::new(self.bits.wrapping_mul(other.bits))
+    }
+
+    // The word rotated to the left by `r`.
+    pub fn rotate_left(self, r: u32) -> Word<U>
+        requires { r < U.width }
+        ensures { result ≡ rotl U.width r self }
+    {
+        Word::new(self.bits.rotate_left(r))
+    }
+
+    // The word rotated to the right by `r`.
+    pub fn rotate_right(self, r: u32) -> Word<U>
+        requires { r < U.width }
+        ensures { result ≡ rotl U.width (U.width - r) self }
+    {
+        Word::new(self.bits.rotate_right(r))
+    }
+
+    // Twice as many low bits of the inverse of `self`, from the low bits in `x`.
+    fn newton(self, x: Word<U>) -> Word<U>
+        ensures { result ≡ newton U.width self x }
+    {
+        x.wrapping_mul(Word::from_u8(2).wrapping_sub(self.wrapping_mul(x)))
+    }
+
+    // The inverse of an odd word modulo 2^w. An odd word is its own inverse in three bits, and each step doubles them, five of them past 64.
+    pub fn inverse(self) -> Word<U>
+        requires { self % 2 ≡ 1 }
+        ensures { result ≡ inverse U.width self }
+    {
+        self.newton(self.newton(self.newton(self.newton(self.newton(self)))))
+    }
 }
 
-// `x` rotated to the left by `r`. The second shift is in two parts, so that it is never by the whole width.
-pub fn rotate_left32(x: u32, r: u32) -> u32
-    requires { r < 32 }
-    ensures { result ≡ rotl 32 r x }
+// The words of a vector of eight.
+pub fn words<U: Unsigned>(v: [U; 8]) -> [Word<U>; 8]
+    ensures { result ≡ map U.number v }
 {
-    (x << r) | ((x >> 1) >> (31 - r))
+    [
+        Word::new(v[0]),
+        Word::new(v[1]),
+        Word::new(v[2]),
+        Word::new(v[3]),
+        Word::new(v[4]),
+        Word::new(v[5]),
+        Word::new(v[6]),
+        Word::new(v[7]),
+    ]
 }
 
-// `x` rotated to the right by `r`.
-pub fn rotate_right32(x: u32, r: u32) -> u32
-    requires { r < 32 }
-    ensures { result ≡ rotl 32 (32 - r) x }
+// The bits of a vector of eight words.
+pub fn bits<U: Unsigned>(v: [Word<U>; 8]) -> [U; 8]
+    ensures { map U.number result ≡ v }
 {
-    ((x << 1) << (31 - r)) | (x >> r)
-}
-
-// The sum of `a` and `b` modulo 2^64.
-pub fn add64(a: u64, b: u64) -> u64
-    ensures { result ≡ plus 64 a b }
-{
-    std::num::wrapping_add_u64(a, b)
-}
-
-// `a` less `b` modulo 2^64.
-pub fn subtract64(a: u64, b: u64) -> u64
-    ensures { result ≡ minus 64 a b }
-{
-    std::num::wrapping_sub_u64(a, b)
-}
-
-// The product of `a` and `b` modulo 2^64, by halves: no product of two halves is wider than a word.
-pub fn multiply64(a: u64, b: u64) -> u64
-    ensures { result ≡ times 64 a b }
-{
-    let al = a % 4294967296;
-    let ah = a / 4294967296;
-    let bl = b % 4294967296;
-    let bh = b / 4294967296;
-    let middle = add64(ah * bl, al * bh) % 4294967296;
-    add64(al * bl, middle * 4294967296)
-}
-
-// Twice as many low bits of the inverse of `a`, from the low bits in `x`.
-fn newton64(a: u64, x: u64) -> u64
-    ensures { result ≡ newton 64 a x }
-{
-    multiply64(x, subtract64(2, multiply64(a, x)))
-}
-
-// The inverse of an odd `a` modulo 2^64. An odd word is its own inverse in three bits, and each step doubles them.
-pub fn inverse64(a: u64) -> u64
-    requires { a % 2 ≡ 1 }
-    ensures { result ≡ inverse 64 a }
-{
-    newton64(a, newton64(a, newton64(a, newton64(a, newton64(a, a)))))
-}
-
-// `x` rotated to the left by `r`. The second shift is in two parts, so that it is never by the whole width.
-pub fn rotate_left64(x: u64, r: u32) -> u64
-    requires { r < 64 }
-    ensures { result ≡ rotl 64 r x }
-{
-    (x << r) | ((x >> 1) >> (63 - r))
-}
-
-// `x` rotated to the right by `r`.
-pub fn rotate_right64(x: u64, r: u32) -> u64
-    requires { r < 64 }
-    ensures { result ≡ rotl 64 (64 - r) x }
-{
-    ((x << 1) << (63 - r)) | (x >> r)
+    [
+        v[0].bits(),
+        v[1].bits(),
+        v[2].bits(),
+        v[3].bits(),
+        v[4].bits(),
+        v[5].bits(),
+        v[6].bits(),
+        v[7].bits(),
+    ]
 }

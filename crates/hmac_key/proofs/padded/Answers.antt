@@ -7,16 +7,16 @@ use Rattle.hmac.specs.Hmac.{xored}
 use Rattle.hmac.proofs.Padded.{none_padded, one_padded, all_padded}
 use Rattle.hmac_key.proofs.padded.Goals as goal
 
-pub loop-i-init : goal.loop-i-init
-loop-i-init c = none_padded c.args.pad c.args.k
+pub loop-byte-init : goal.loop-byte-init
+loop-byte-init c = none_padded c.args.pad c.args.k
 
-pub loop-i-preserved : goal.loop-i-preserved
-loop-i-preserved c =
+pub loop-byte-preserved : goal.loop-byte-preserved
+loop-byte-preserved c =
     let l : length c.args.k ≡ 128 = search rules in
-    one_padded c.args.pad c.loop-i.invariant (omega (arith, l, c.loop-i-test.true))
+    one_padded c.args.pad c.loop-byte.invariant (omega (arith, l, c.loop-byte-test.true))
 
 pub returns : goal.returns
 returns c =
     let a = c.args in
     let l : length a.k ≡ 128 = search rules in
-    all_padded a.pad c.loop-i.invariant (omega (arith, l, c.loop-i-test.false)) ∙ ap (λ (n : ℕ). xored a.k (replicate n a.pad)) l
+    all_padded a.pad c.loop-byte.invariant (omega (arith, l, c.loop-byte-test.false)) ∙ ap (λ (n : ℕ). xored a.k (replicate n a.pad)) l

@@ -29,8 +29,8 @@ store-requires c =
     let l = c.loop-g.invariant in
     (refl, row_inside l c.loop-g-test.true _ (omega (arith, l.size, l.room)))
 
-pub overflow_add-g : goal.overflow_add-g
-overflow_add-g c = omega (arith, tile_inside c.loop-g.invariant c.loop-g-test.true)
+pub overflow_step-g : goal.overflow_step-g
+overflow_step-g c = omega (arith, tile_inside c.loop-g.invariant c.loop-g-test.true)
 
 pub loop-g-smaller : goal.loop-g-smaller
 loop-g-smaller c = omega (arith, some_words c.loop-g.invariant, c.loop-g-test.true)
@@ -49,3 +49,13 @@ shape_of-out c = c.loop-g.invariant.size
 
 pub returns : goal.returns
 returns c = restore_all (search rules) c.loop-g.invariant
+
+pub returns-2 : goal.returns-2
+returns-2 c =
+    let a = c.args in
+    let p = c.requires.tiled in
+    let x = c.load-x.result in
+    let e : c.transpose.result ≡ transposed a.k a.q x =
+    c.transpose.ensures ∙ ap₂ {C = List ℕ} (λ m n. transposed m n x) (sym p.2) (sym p.3) in
+    let m = restore_more c.loop-g.invariant c.loop-g-test.true x c.transpose.result _ c.load-x.ensures e c.store.ensures in
+    restore_all (omega arith) m

@@ -2,7 +2,7 @@ use borrow.Author.Rules.{rules}
 use native.Mathlib.Omega.{arith}
 use Rattle.shuffle.specs.Shuffle.{unshuffled_record}
 use Rattle.shuffle.proofs.Widths.{sized, unshuffled_keeps}
-use Rattle.shuffler.proofs.Loop.{begin, same_size, inside, few, starts, asked, next, end}
+use Rattle.shuffler.proofs.Loop.{begin, same_size, inside, starts, asked, next, end}
 use Rattle.shuffler.proofs.restore_records.Goals as goal
 
 pub nonzero_div-count : goal.nonzero_div-count
@@ -28,9 +28,6 @@ slice_bounds-restore_record-start-in-loop-i c = starts unshuffled_keeps c.loop-i
 
 pub restore_record-requires : goal.restore_record-requires
 restore_record-requires c = asked unshuffled_keeps c.loop-i.invariant c.loop-i-test.true
-
-pub overflow_add-i : goal.overflow_add-i
-overflow_add-i c = omega (arith, few unshuffled_keeps c.loop-i.invariant, c.loop-i-test.true, c.well_formed)
 
 pub loop-i-preserved : goal.loop-i-preserved
 loop-i-preserved c = next unshuffled_keeps c.loop-i.invariant c.loop-i-test.true _ c.restore_record.ensures

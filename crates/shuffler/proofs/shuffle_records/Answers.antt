@@ -2,7 +2,7 @@ use borrow.Author.Rules.{rules}
 use native.Mathlib.Omega.{arith}
 use Rattle.shuffle.specs.Shuffle.{shuffled_record}
 use Rattle.shuffle.proofs.Widths.{sized, shuffled_keeps}
-use Rattle.shuffler.proofs.Loop.{begin, same_size, inside, few, starts, asked, next, end}
+use Rattle.shuffler.proofs.Loop.{begin, same_size, inside, starts, asked, next, end}
 use Rattle.shuffler.proofs.shuffle_records.Goals as goal
 
 pub nonzero_div-count : goal.nonzero_div-count
@@ -28,9 +28,6 @@ slice_bounds-shuffle_record-start-in-loop-i c = starts shuffled_keeps c.loop-i.i
 
 pub shuffle_record-requires : goal.shuffle_record-requires
 shuffle_record-requires c = asked shuffled_keeps c.loop-i.invariant c.loop-i-test.true
-
-pub overflow_add-i : goal.overflow_add-i
-overflow_add-i c = omega (arith, few shuffled_keeps c.loop-i.invariant, c.loop-i-test.true, c.well_formed)
 
 pub loop-i-preserved : goal.loop-i-preserved
 loop-i-preserved c = next shuffled_keeps c.loop-i.invariant c.loop-i-test.true _ c.shuffle_record.ensures

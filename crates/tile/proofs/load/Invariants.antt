@@ -1,9 +1,5 @@
-use Prim.Native.Nat.{◌-◌}
 use Rattle.tile.proofs.Copy.{Filling}
 use Rattle.tile.proofs.load.Given as goal
 
 abbrev pub invariant-loop-n : goal.invariant-loop-n
 invariant-loop-n l = Filling l.k l.q l.s l.i l.d l.n l.r
-
-abbrev pub decreases-loop-n : goal.decreases-loop-n
-decreases-loop-n l = l.q - l.n

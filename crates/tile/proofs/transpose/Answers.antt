@@ -6,17 +6,17 @@ use Rattle.shuffle.specs.Transposed.{transposed}
 use Rattle.tile.proofs.Interleaved.{repeated, repeated_none, repeated_more}
 use Rattle.tile.proofs.transpose.Goals as goal
 
-pub loop-n-init : goal.loop-n-init
-loop-n-init c = (search rules, c.requires, repeated_none c.args.x (search rules))
+pub loop-init : goal.loop-init
+loop-init c = (search rules, c.requires, repeated_none c.args.x (search rules))
 
-pub loop-n-preserved : goal.loop-n-preserved
-loop-n-preserved c = (
+pub loop-preserved : goal.loop-preserved
+loop-preserved c = (
   omega arith,
-  c.loop-n.invariant.1,
-  c.interleave-next.ensures ∙ ap (transposed 2 64) c.loop-n.invariant.2 ∙ repeated_more c.loop-n.n c.args.x (omega (arith, c.loop-n.invariant.1, c.loop-n-test.true)),
+  c.loop.invariant.1,
+  c.interleave-next.ensures ∙ ap (transposed 2 64) c.loop.invariant.2 ∙ repeated_more c.loop.counter c.args.x (omega (arith, c.loop.invariant.1, c.loop-test.true)),
 )
 
 pub returns : goal.returns
 returns c =
-    let e : c.loop-n.n ≡ c.args.times = omega (arith, c.loop-n.invariant.0, c.loop-n-test.false) in
-    c.loop-n.invariant.2 ∙ ap (λ (t : ℕ). repeated t c.args.x) e
+    let e : c.loop.counter ≡ c.args.times = omega (arith, c.loop.invariant.0, c.loop-test.false) in
+    c.loop.invariant.2 ∙ ap (λ (t : ℕ). repeated t c.args.x) e

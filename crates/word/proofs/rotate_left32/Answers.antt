@@ -1,6 +1,0 @@
-use Rattle.word.proofs.Rotation.{rotl_or}
-use Rattle.std.proofs.Common.{rules}
-use Rattle.word.proofs.rotate_left32.Goals as goal
-
-pub returns : goal.returns
-returns c = rotl_or 32 c.args.r c.args.x (search rules) (search rules)
