@@ -1,7 +1,7 @@
 -- Undoing the sums as the code does it comes to the inverse square, for every width.
 use mathlib.Core.Path.{◌≡◌, refl, sym, ap, ap₂, ◌∙◌}
-use Prim.Native.Nat.{ℕ, ◌+◌, ◌-◌, ◌*◌, ◌%◌, ◌^◌, ◌<◌}
-use native.Mathlib.Nat.{mod-mod, mod-eq_of_lt, add-mod-mod, mod-add-mod, add-zero, zero-mod, add_assoc, add_comm, zero-add, add-mod}
+use Prim.Native.Nat.{ℕ, ◌+◌, ◌-◌, ◌*◌, ◌%◌, ◌^◌}
+use native.Mathlib.Nat.{mod-mod, add-mod-mod, mod-add-mod, add-zero, add_assoc, add_comm, zero-add, add-mod}
 use native.Mathlib.Nat.{sub-add_cancel, add-mul-mod_self_right}
 use native.Mathlib.Omega.{arith}
 use mathlib.Core.List.{List, [], ◌∷◌, map}
@@ -21,11 +21,10 @@ use Rattle.halves.specs.Balance.{balance, two_fifths}
 
 -- ---- words added and taken away, one at a time
 
-pub balance_nil : (w u : ℕ) → u < 2 ^ w → balance w u [] [] ≡ u
-unfolding balance
-balance_nil w u h =
-    let e : u + 0 + (2 ^ w - 0 % 2 ^ w) ≡ u + 1 * 2 ^ w = ap (λ n. u + 0 + (2 ^ w - n)) (zero-mod (2 ^ w)) ∙ omega arith in
-    ap (λ n. n % 2 ^ w) e ∙ add-mul-mod_self_right u 1 (2 ^ w) ∙ mod-eq_of_lt h
+-- the first word taken away, from any number
+pub balance_one : (w u x : ℕ) → balance w u [] (x ∷ []) ≡ minus w u x
+unfolding balance minus
+balance_one w u x = ap₂ (λ m n. (m + (2 ^ w - n % 2 ^ w)) % 2 ^ w) (add-zero u) (add-zero x)
 
 pub balance_plus : (w u x : ℕ) (p n : List ℕ) → balance w u (x ∷ p) n ≡ plus w (balance w u p n) x
 unfolding balance plus
@@ -53,10 +52,9 @@ pub sum_cons : (w k x : ℕ) (l : List ℕ) → sum w k (x ∷ l) ≡ plus w x (
 unfolding sum plus
 sum_cons w k x l = ap (λ n. n % 2 ^ w) (add_assoc x (fold ◌+◌ l) k) ∙ sym (add-mod-mod x (fold ◌+◌ l + k) (2 ^ w))
 
--- a sum of one word is the word
-pub sum_one : (w x : ℕ) → x < 2 ^ w → sum w 0 (x ∷ []) ≡ x
-unfolding sum
-sum_one w x h = ap (λ n. n % 2 ^ w) (add-zero (x + 0) ∙ add-zero x) ∙ mod-eq_of_lt h
+pub sum_two : (w x y : ℕ) → sum w 0 (x ∷ y ∷ []) ≡ plus w x y
+unfolding sum plus
+sum_two w x y = ap (λ n. n % 2 ^ w) (add-zero (x + (y + 0)) ∙ ap (λ n. x + n) (add-zero y))
 
 -- ---- the rows of the inverse square
 

@@ -1,8 +1,0 @@
-use borrow.Author.Rules.{rules}
-use Rattle.pipe.proofs.Call.{stored}
-use Rattle.block64.proofs.store.Goals as goal
-
-pub returns : goal.returns
-returns c =
-    let a = c.args in
-    stored 8 a.p.first a.p.second a.b.now (search rules) (search rules) (search rules) c.store_vector.ensures c.store_vector-2.ensures

@@ -1,0 +1,27 @@
+use Rattle.std.proofs.Common.{rules}
+use Rattle.quasigroup.specs.Division.{right_unxors}
+use Rattle.halves.proofs.Places.{eight_unrotated}
+use Rattle.division.proofs.right_unrotated.Goals as goal
+
+pub returns : goal.returns
+returns g c =
+    let t = g.U.Width.tables in
+    eight_unrotated t.bits t.right_constant t.right_amounts right_unxors c.args.z (search rules)
+    c.right_amounts-r.ensures.value c.right_constant-k.ensures c.from_u8-zero.ensures
+    c.unrotated.ensures
+    c.unrotated-2.ensures
+    c.unrotated-3.ensures
+    c.unrotated-4.ensures
+    c.unrotated-5.ensures
+    c.unrotated-6.ensures
+    c.unrotated-7.ensures
+    c.unrotated-8.ensures
+
+pub unrotated-requires-6 : goal.unrotated-requires-6
+unrotated-requires-6 g c = (search rules, (search rules, c.right_amounts-r.ensures.below 5))
+
+pub unrotated-requires-7 : goal.unrotated-requires-7
+unrotated-requires-7 g c = (search rules, (search rules, c.right_amounts-r.ensures.below 6))
+
+pub unrotated-requires-8 : goal.unrotated-requires-8
+unrotated-requires-8 g c = (search rules, (search rules, c.right_amounts-r.ensures.below 7))

@@ -1,6 +1,0 @@
-use Rattle.quasigroup.specs.Division.{left_division}
-use Rattle.division32.proofs.left.divide.Goals as goal
-
-pub returns : goal.returns
-unfolding left_division
-returns c = cc

@@ -1,6 +1,0 @@
-use Rattle.quasigroup.specs.Tables.{width64}
-use Rattle.quasigroup.proofs.Barred.{barred_from_halves}
-use Rattle.product64.proofs.barred_product.Goals as goal
-
-pub returns : goal.returns
-returns c = barred_from_halves width64 _ _ c.barred_left_half.ensures c.right_half.ensures c.joined.ensures
