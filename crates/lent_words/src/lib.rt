@@ -1,7 +1,7 @@
 // Words, and vectors of eight of them, in lent bytes, lowest byte first.
 #![tactic(auto)]
 
-ghost use Rattle.std.specs.Prelude.{◌≡◌, ◌++◌, ◌+◌, ◌*◌, ◌≤◌, ℕ, length, take, drop};
+ghost use Rattle.std.specs.Prelude.{◌≡◌, ◌++◌, ◌+◌, ◌*◌, ◌^◌, ◌<◌, ◌≤◌, ℕ, get_or, length, take, drop};
 ghost use Rattle.std.proofs.Common.{lit≤, refl};
 ghost use Rattle.std.proofs.lemmas.List.Edits.{sets};
 ghost use Rattle.memory.specs.Bytes.{word_at, words_at, bytes, bytes_of};
@@ -21,10 +21,11 @@ pub trait LentWord: Unsigned {
         ensures value { Self.number result ≡ word_at BYTES s.now at }
         ensures result_value { bytes BYTES (Self.number result) ≡ take BYTES (drop at s.now) };
 
-    // The bytes of `self` at `at`.
+    // The bytes of `self` at `at`. That they are all of it is said too, since a caller does not know the number to be one of the type's.
     fn store(self, out: &mut [u8], at: usize)
         requires { at + BYTES ≤ length out.old }
-        ensures { out.new ≡ sets out.old at (bytes BYTES (Self.number self)) };
+        ensures out_after { out.new ≡ sets out.old at (bytes BYTES (Self.number self)) }
+        ensures fits { Self.number self < 2 ^ Self.width };
 
     ghost most_bytes: { BYTES ≤ 8 };
 
@@ -85,10 +86,11 @@ pub fn load<U: LentWord>(s: &[u8], at: usize) -> Word<U>
     Word::new(U::load(s, at))
 }
 
-// The bytes of `x` at `at`, lowest byte first.
+// The bytes of `x` at `at`, lowest byte first, and that they are all of it.
 pub fn store<U: LentWord>(out: &mut [u8], at: usize, x: Word<U>)
     requires { at + U.BYTES ≤ length out.old }
-    ensures { out.new ≡ sets out.old at (bytes U.BYTES x) }
+    ensures out_after { out.new ≡ sets out.old at (bytes U.BYTES x) }
+    ensures fits { x < 2 ^ U.width }
 {
     x.bits().store(out, at);
 }
@@ -113,7 +115,8 @@ pub fn load_vector<U: LentWord>(s: &[u8]) -> [Word<U>; 8]
 // The words of `v` at the start of `out`; the rest of `out` stays.
 pub fn store_vector<U: LentWord>(out: &mut [u8], v: [Word<U>; 8])
     requires { 8 * U.BYTES ≤ length out.old }
-    ensures { out.new ≡ bytes_of U.BYTES v ++ drop (8 * U.BYTES) out.old }
+    ensures out_after { out.new ≡ bytes_of U.BYTES v ++ drop (8 * U.BYTES) out.old }
+    ensures fits { (i : ℕ) → i < 8 → get_or v i 0 < 2 ^ U.width }
 {
     store(out, 0, v[0]);
     store(out, U::BYTES, v[1]);
