@@ -1,6 +1,8 @@
 // The product and both divisions on lent bytes, for a width given as a number: each call tests its arguments and refuses by number.
 #![tactic(auto)]
 
+mod vectors;
+
 ghost use Rattle.std.specs.Prelude.{◌≡◌};
 ghost use Rattle.quasigroup.specs.Product.{product};
 ghost use Rattle.quasigroup.specs.Division.{left_division, right_division};
@@ -18,10 +20,10 @@ pub fn product(width: u32, x: &[u8], y: &[u8], out: &mut [u8]) -> Answer
         return r;
     }
     if width == 32 {
-        buffer32::product(x, y, out);
+        vectors::product::<u32>(x, y, out);
         return r;
     }
-    buffer64::product(x, y, out);
+    vectors::product::<u64>(x, y, out);
     r
 }
 
@@ -35,10 +37,10 @@ pub fn left_division(width: u32, a: &[u8], b: &[u8], out: &mut [u8]) -> Answer
         return r;
     }
     if width == 32 {
-        buffer32::left_division(a, b, out);
+        vectors::left_division::<u32>(a, b, out);
         return r;
     }
-    buffer64::left_division(a, b, out);
+    vectors::left_division::<u64>(a, b, out);
     r
 }
 
@@ -52,9 +54,9 @@ pub fn right_division(width: u32, b: &[u8], a: &[u8], out: &mut [u8]) -> Answer
         return r;
     }
     if width == 32 {
-        buffer32::right_division(b, a, out);
+        vectors::right_division::<u32>(b, a, out);
         return r;
     }
-    buffer64::right_division(b, a, out);
+    vectors::right_division::<u64>(b, a, out);
     r
 }

@@ -2,9 +2,10 @@
 #![tactic(auto)]
 
 ghost use Rattle.std.specs.Prelude.{◌≡◌, ◌++◌, ◌+◌, ◌*◌, ◌^◌, ◌<◌, ◌≤◌, ℕ, get_or, length, take, drop};
-ghost use Rattle.std.proofs.Common.{lit≤, refl};
+ghost use Rattle.std.proofs.Common.{lit<, lit≤, refl};
 ghost use Rattle.std.proofs.lemmas.List.Edits.{sets};
 ghost use Rattle.memory.specs.Bytes.{word_at, words_at, bytes, bytes_of};
+ghost use Rattle.lent_words.specs.Fits.{VectorFits};
 
 use word::{Unsigned, Word};
 
@@ -30,6 +31,9 @@ pub trait LentWord: Unsigned {
     ghost most_bytes: { BYTES ≤ 8 };
 
     ghost bits_of_bytes: { Self.width ≡ 8 * BYTES };
+
+    // A vector of the type's words fits in memory, so that functions may hand one on that take and give none.
+    ghost vector_fits: { VectorFits Self.row };
 }
 
 impl LentWord for u32 {
@@ -48,6 +52,8 @@ impl LentWord for u32 {
     ghost most_bytes = { lit≤ tt };
 
     ghost bits_of_bytes = { refl };
+
+    ghost vector_fits = { lit< tt };
 }
 
 impl LentWord for u64 {
@@ -75,6 +81,8 @@ impl LentWord for u64 {
     ghost most_bytes = { lit≤ tt };
 
     ghost bits_of_bytes = { refl };
+
+    ghost vector_fits = { lit< tt };
 }
 
 // The word whose bytes stand at `at`, lowest byte first. That these are its bytes is said too, since a caller does not know the elements to be bytes.
