@@ -26,17 +26,6 @@ module _ {P : Type 0} (B : ℕ) (f : P → List ℕ → P) where
       let h₂ : B ≤ length (drop (n * B) s) = simp length-drop (omega arith) in
       rw (iterated_front n p s t h₁, drop-append-le (n * B) s t h₁, take-append-le B (drop (n * B) s) t h₂)
 
-  -- a turn of the loop over blocks, which takes block i as a part of s
-  pub iterated_turn : (p : P) (s : List ℕ) (i : ℕ) {q r : P} → q ≡ iterated B f i p s
-      → r ≡ f q (take (i * B + B - i * B) (drop (i * B) s)) → r ≡ iterated B f (i + 1) p s
-  iterated_turn p s i {q} {r} e g =
-      let d : i * B + B - i * B ≡ B = omega arith in
-      rw (add-one) (g ∙ rw (d, e))
-
-  -- and its end
-  pub iterated_all : (p : P) (s : List ℕ) (i : ℕ) {q : P} → i ≡ length s / B → q ≡ iterated B f i p s → q ≡ compressed B f p s
-  iterated_all p s i n e = e ∙ ap (λ (j : ℕ). iterated B f j p s) n
-
 module _ (B : ℕ) (pos : 0 < B) where
   pub length_rest : (s : List ℕ) → length (rest B s) ≡ length s % B
   length_rest s = length-drop _ s ∙ sym (mod-eq-sub-div-mul (length s) B)
@@ -83,3 +72,9 @@ module _ (B : ℕ) (pos : 0 < B) where
         let n : length s / B ≡ 1 = ap (λ (x : ℕ). x / B) e ∙ div_self pos in
         let l : length s ≤ B = omega arith in
         rw n (rw (zero-mul B, take_all B s l))
+
+    -- a block and what is behind it
+    pub compressed_front : (m t : List ℕ) → length m ≡ B → compressed B f (f p m) t ≡ compressed B f p (m ++ t)
+    compressed_front m t e =
+        ap (λ (q : P). compressed B f q t) (sym (compressed_one m e))
+        ∙ ap (λ (r : List ℕ). compressed B f (compressed B f p m) (r ++ t)) (sym (rest_one m e)) ∙ compressed_twice m t

@@ -1,11 +1,16 @@
-use Rattle.quasigroup.specs.Tables.{width32}
+use Rattle.std.proofs.Common.{ap, sym, ◌∙◌}
 use Rattle.invertible.specs.RoundTrip.{Forward}
+use Rattle.digest.specs.Pipe.{written}
 use Rattle.digest.specs.Step.{step}
 use Rattle.pipe.proofs.Call.{replaced}
-use Rattle.block32.proofs.step_in.Goals as goal
+use Rattle.block.proofs.WordBytes.{same_bytes}
+use Rattle.block.proofs.step_in.Goals as goal
 
-pub returns : goal.returns
+pub returns-clause-moved : goal.returns-clause-moved
 unfolding step
-returns c =
+returns-clause-moved g c =
     let a = c.args in
-    replaced width32 Forward a.m.now a.b.now c.load-p.ensures c.step.ensures c.store.ensures
+    let s = g.U.Width.tables in
+    let k = g.U.LentWord.BYTES in
+    let same = same_bytes s g.U.Unsigned.width k g.met.U.Width.same_width g.met.U.LentWord.bits_of_bytes in
+    replaced s Forward a.m.now a.b.now c.load.ensures c.step-p.ensures (c.store.ensures ∙ ap (λ n. written n c.step-p.result) (sym same))

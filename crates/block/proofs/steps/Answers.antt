@@ -1,25 +1,29 @@
-use mathlib.Core.Path.{refl}
-use borrow.Author.Rules.{rules}
-use native.Mathlib.Omega.{arith}
-use lib.ListN.{length-take, length-drop}
-use Rattle.quasigroup.specs.Tables.{width32}
+use Rattle.std.proofs.Common.{ℕ, ◌*◌, ◌<◌, ap, sym, ◌∙◌, arith}
+use Rattle.std.specs.Slice.Iter.{chunks_exact_rest}
+use Rattle.digest.specs.Blocks.{compressed}
 use Rattle.digest.specs.Step.{step}
-use Rattle.digest.proofs.Blocks.{iterated_turn, iterated_all}
-use Rattle.compression32.specs.Pipes.{pipe32}
-use Rattle.block32.proofs.steps.Goals as goal
+use Rattle.digest.proofs.Blocks.{compressed_front, compressed_short}
+use Rattle.block.proofs.steps.Goals as goal
 
-pub loop-i-init : goal.loop-i-init
-loop-i-init c = (search rules, refl)
-
-pub step-q-requires : goal.step-q-requires
-step-q-requires c = simp (length-take, length-drop) (omega arith)
-
-pub loop-i-preserved : goal.loop-i-preserved
-loop-i-preserved c =
-    let a = c.args in
-    (search rules, iterated_turn 64 (step width32) (pipe32 a.p) a.s.now c.loop-i.i c.loop-i.invariant.1 c.step-q.ensures)
+pub loop-m-preserved : goal.loop-m-preserved
+loop-m-preserved g c =
+    let B : ℕ = 16 * g.U.LentWord.BYTES in
+    let pos : 0 < B = omega (arith, g.met.U.Unsigned.some_bits, g.met.U.LentWord.bits_of_bytes) in
+    let f = step g.U.Width.tables in
+    let i = c.loop-m.invariant in
+    let n = c.in-Some.ensures.steps in
+    let left = chunks_exact_rest c.next.new.self in
+    record {
+      size = n.0 ∙ i.size;
+      same_end =
+          ap (λ q. compressed B f q left) c.step-q.ensures ∙ compressed_front B pos f c.loop-m.q c.in-Some.m.now left (n.1.1 ∙ i.size)
+          ∙ ap (compressed B f c.loop-m.q) (sym n.1.0) ∙ i.same_end;
+    }
 
 pub returns : goal.returns
-returns c =
-    let a = c.args in
-    iterated_all 64 (step width32) (pipe32 a.p) a.s.now c.loop-i.i (omega arith) c.loop-i.invariant.1
+returns g c =
+    let B : ℕ = 16 * g.U.LentWord.BYTES in
+    let pos : 0 < B = omega (arith, g.met.U.Unsigned.some_bits, g.met.U.LentWord.bits_of_bytes) in
+    let i = c.loop-m.invariant in
+    let n = c.in-None.ensures.steps in
+    sym (compressed_short B pos (step g.U.Width.tables) c.loop-m.q (chunks_exact_rest c.loop-m.m-iterator) (omega (arith, n.1.0))) ∙ i.same_end

@@ -1,13 +1,14 @@
-use mathlib.Core.Path.{◌≡◌}
-use Prim.Native.Nat.{◌≤◌, ◌-◌}
-use Rattle.quasigroup.specs.Tables.{width32}
-use Rattle.digest.specs.Blocks.{iterated}
+use Rattle.std.proofs.Common.{◌≡◌, ◌*◌}
+use Rattle.std.specs.Slice.Iter.{chunks_exact_rest, chunks_exact_size}
+use Rattle.digest.specs.Blocks.{compressed}
 use Rattle.digest.specs.Step.{step}
-use Rattle.compression32.specs.Pipes.{pipe32}
-use Rattle.block32.proofs.steps.Given as goal
+use Rattle.block.proofs.steps.Given as goal
 
-abbrev pub invariant-loop-i : goal.invariant-loop-i
-invariant-loop-i l = (l.i ≤ l.n) × (pipe32 l.q ≡ iterated 64 (step width32) l.i (pipe32 l.initial.q) l.s)
-
-abbrev pub decreases-loop-i : goal.decreases-loop-i
-decreases-loop-i l = l.n - l.i
+-- what is left leads to the same pipe
+abbrev pub invariant-loop-m : goal.invariant-loop-m
+invariant-loop-m g l =
+    record {
+      size : chunks_exact_size l.m-iterator ≡ 16 * g.U.LentWord.BYTES;
+      same_end : compressed (16 * g.U.LentWord.BYTES) (step g.U.Width.tables) l.q (chunks_exact_rest l.m-iterator)
+          ≡ compressed (16 * g.U.LentWord.BYTES) (step g.U.Width.tables) l.fn.p l.s;
+    }

@@ -1,8 +1,10 @@
-use borrow.Author.Rules.{rules}
+use Rattle.std.proofs.Common.{rules}
 use Rattle.pipe.proofs.Call.{stored}
-use Rattle.block32.proofs.store.Goals as goal
+use Rattle.block.proofs.store.Goals as goal
 
 pub returns : goal.returns
-returns c =
-    let a = c.args in
-    stored 4 a.p.first a.p.second a.b.now (search rules) (search rules) (search rules) c.store_vector.ensures c.store_vector-2.ensures
+returns g c =
+    let p = c.p.inside in
+    rw (← c.p.view_is, c.BYTES.ensures)
+    (stored g.U.LentWord.BYTES p.first p.second c.args.b.now (search rules) (search rules) (search rules)
+    c.store_vector.ensures (rw c.BYTES.ensures at c.store_vector-2.ensures))
