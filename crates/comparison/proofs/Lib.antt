@@ -1,3 +1,2 @@
-pub mod Bits
-pub mod Chunks
+pub mod Same
 pub mod Search

@@ -25,48 +25,41 @@ pub word_within : (w : ℕ) → known_width w ≡ true → (i : ℕ) → i < rec
 word_within w k i h =
     omega (arith, suc-mul i (w / 8), mul-le-mul_right {m = i + 1} {n = record_words} (w / 8) (omega arith), (bytewise w k).eight)
 
--- of the words below i those below `first` are the same, and at `first`, where it is not behind the last, they differ
-pub record Searched (w : ℕ) (r : List ℕ) (from : ℕ) (v : List ℕ) (first i : ℕ) : Type 0 where
-  pub within : first ≤ record_words
-  pub same : (j : ℕ) → j < i → j < first → get_or (record_at w r from) j 0 ≡ get_or (record_at w v 0) j 0
-  pub other : first < record_words → get_or (record_at w r from) first 0 ≡ get_or (record_at w v 0) first 0 → ⊥
-
 module _ (w : ℕ) (r : List ℕ) (from : ℕ) (v : List ℕ) where
-  pub begin : Searched w r from v record_words 0
-  begin = record { within = omega arith; same = λ j h. absurd (omega (arith, h)); other = λ h. absurd (omega (arith, h)) }
+  -- the words below i are the same
+  abbrev pub Agreed : ℕ → Type 0
+  Agreed i = (j : ℕ) → j < i → get_or (record_at w r from) j 0 ≡ get_or (record_at w v 0) j 0
 
-  module _ (first i : ℕ) (c : Searched w r from v first i) where
-    -- code loaded the words a of the record and b of the state
-    module _ (h : i < first) {a b : ℕ} (ea : a ≡ word_at (w / 8) r (from + i * (w / 8))) (eb : b ≡ word_at (w / 8) v (i * (w / 8))) where
-      found : a ≡ get_or (record_at w r from) i 0
-      found = ea ∙ sym (record_get w r from i (omega (arith, c.within)))
+  pub none_yet : Agreed 0
+  none_yet j h = absurd (omega arith)
 
-      expected : b ≡ get_or (record_at w v 0) i 0
-      expected =
-          let z : i * (w / 8) ≡ 0 + i * (w / 8) = omega arith in
-          eb ∙ ap (word_at (w / 8) v) z ∙ sym (record_get w v 0 i (omega (arith, c.within)))
+  -- code loaded the words a of the record and b of the state
+  module _ (i : ℕ) (h : i < record_words) {a b : ℕ} (ea : a ≡ word_at (w / 8) r (from + i * (w / 8))) (eb : b ≡ word_at (w / 8) v (i * (w / 8))) where
+    found : a ≡ get_or (record_at w r from) i 0
+    found = ea ∙ sym (record_get w r from i h)
 
-      pub found_here : (a ≡ b → ⊥) → Searched w r from v i (i + 1)
-      found_here d =
-          record {
-            within = omega (arith, c.within);
-            same = λ j _ k. c.same j k (omega arith);
-            other = λ _ e. d (found ∙ e ∙ sym expected);
-          }
+    expected : b ≡ get_or (record_at w v 0) i 0
+    expected =
+        let z : i * (w / 8) ≡ 0 + i * (w / 8) = omega arith in
+        eb ∙ ap (word_at (w / 8) v) z ∙ sym (record_get w v 0 i h)
 
-      same_to : a ≡ b → (j : ℕ) → j < i + 1 → j < first → Dec (j ≡ i) → get_or (record_at w r from) j 0 ≡ get_or (record_at w v 0) j 0
-      same_to e j k l (yes p) = subst (λ (j : ℕ). get_or (record_at w r from) j 0 ≡ get_or (record_at w v 0) j 0) (sym p) (sym found ∙ e ∙ expected)
-      same_to e j k l (no n) = let less : j < i = omega (arith, n) in c.same j less l
+    same_to : Agreed i → a ≡ b → (j : ℕ) → j < i + 1 → Dec (j ≡ i) → get_or (record_at w r from) j 0 ≡ get_or (record_at w v 0) j 0
+    same_to c e j k (yes p) = subst (λ (j : ℕ). get_or (record_at w r from) j 0 ≡ get_or (record_at w v 0) j 0) (sym p) (sym found ∙ e ∙ expected)
+    same_to c e j k (no n) = let less : j < i = omega (arith, n) in c j less
 
-      pub goes_on : a ≡ b → Searched w r from v first (i + 1)
-      goes_on e = record { within = c.within; same = λ j k l. same_to e j k l (ℕ_discrete j i); other = c.other }
+    pub one_more : Agreed i → a ≡ b → Agreed (i + 1)
+    one_more c e j k = same_to c e j k (ℕ_discrete j i)
 
-    pub found_first : first ≤ i → first ≡ agreeing (record_at w r from) (record_at w v 0)
-    found_first h =
+    pub differs : Agreed i → (a ≡ b → ⊥) → i ≡ agreeing (record_at w r from) (record_at w v 0)
+    differs c d =
         let lx = record_length_lem w r from in
-        let ly = record_length_lem w v 0 in
-        sym (agrees (record_at w r from) (record_at w v 0) first (lx ∙ sym ly) (omega (arith, lx, c.within)) (λ j k. c.same j (omega arith) k)
-        λ k. c.other (omega (arith, lx, k)))
+        sym (agrees (record_at w r from) (record_at w v 0) i (lx ∙ sym (record_length_lem w v 0)) (omega (arith, lx)) c (λ _ e. d (found ∙ e ∙ sym expected)))
+
+  pub all_agree : (i : ℕ) → record_words ≤ i → Agreed i → record_words ≡ agreeing (record_at w r from) (record_at w v 0)
+  all_agree i h c =
+      let lx = record_length_lem w r from in
+      sym (agrees (record_at w r from) (record_at w v 0) record_words (lx ∙ sym (record_length_lem w v 0)) (omega (arith, lx))
+      (λ j k. c j (omega arith)) (λ k. absurd (omega (arith, lx))))
 
   -- a record that does not hold has such a word
   pub there_is : same_words (record_at w r from) (record_at w v 0) ≡ false → agreeing (record_at w r from) (record_at w v 0) < record_words

@@ -1,42 +1,22 @@
 // A record held against the state that it should be, both as lent bytes.
 #![tactic(auto)]
 
-ghost use Rattle.std.specs.Prelude.{◌≡◌, true, false, ◌+◌, ◌/◌, ◌≤◌, eqb, length};
+ghost use Rattle.std.specs.Prelude.{◌≡◌, true, false, ◌+◌, ◌/◌, ◌≤◌, length};
 ghost use Rattle.memory.specs.Bytes.{word_at};
 ghost use Rattle.quasigroup.specs.Tables.{known_width};
 ghost use Rattle.shuffle.specs.Shuffle.{record_length};
 ghost use Rattle.replay.specs.Difference.{record_at, agreeing, same_words, difference};
 
+use lent_words::LentWord;
 use replay::Finding;
 
-// The bits in which words differ, those of all pairs together: none where each pair is the same.
-fn differing_bits(x: [u64; 8], y: [u64; 8]) -> u64
-    ensures { eqb result 0 ≡ eqb (agreeing x y) 8 }
-{
-    (x[0] ^ y[0])
-        | ((x[1] ^ y[1])
-            | ((x[2] ^ y[2])
-                | ((x[3] ^ y[3])
-                    | ((x[4] ^ y[4]) | ((x[5] ^ y[5]) | ((x[6] ^ y[6]) | (x[7] ^ y[7])))))))
-}
-
-// Whether the record at `from` holds: its bytes are those of the state. They are compared 64 at a time, at either width, and tested once, so that the
-// compiler takes several words together.
+// Whether the record at `from` holds: its bytes are those of the state.
 pub fn record_holds(width: u32, state: &[u8], records: &[u8], from: usize) -> bool
     requires { (known_width width ≡ true) × (length state.now ≡ record_length width) × (from + record_length width ≤ length records.now) }
     ensures { result ≡ same_words (record_at width records.now from) (record_at width state.now 0) }
 {
-    let size = 8 * (width as usize);
-    let mut bits: u64 = 0;
-    let mut at: usize = 0;
-    while at < size {
-        let there = from + at;
-        let found = memory64::load_vector(&records[there..]);
-        let expected = memory64::load_vector(&state[at..]);
-        bits = bits | differing_bits(found, expected);
-        at += 64;
-    }
-    bits == 0
+    let end = from + state.len();
+    records[from..end] == state[..]
 }
 
 // The word whose bytes stand at `at`.
@@ -45,30 +25,25 @@ fn word_at(width: u32, s: &[u8], at: usize) -> u64
     ensures { result ≡ word_at (width / 8) s.now at }
 {
     if width == 32 {
-        memory32::load(s, at) as u64
+        u32::load(s, at).into()
     } else {
-        memory64::load(s, at)
+        u64::load(s, at)
     }
 }
 
-// The number of the first word that differs, of all 64; or 64.
-fn first_difference(width: u32, state: &[u8], records: &[u8], from: usize) -> usize
+// How many words agree, of all 64, before the first that differs.
+fn agreeing(width: u32, state: &[u8], records: &[u8], from: usize) -> usize
     requires { (known_width width ≡ true) × (length state.now ≡ record_length width) × (from + record_length width ≤ length records.now) }
     ensures { result ≡ agreeing (record_at width records.now from) (record_at width state.now 0) }
 {
     let bytes = width as usize / 8;
-    let mut first: usize = 64;
-    let mut i: usize = 0;
-    while i < first {
+    for i in 0..64 {
         let at = i * bytes;
-        let found = word_at(width, records, from + at);
-        let expected = word_at(width, state, at);
-        if found != expected {
-            first = i;
+        if word_at(width, records, from + at) != word_at(width, state, at) {
+            return i;
         }
-        i += 1;
     }
-    first
+    64
 }
 
 // What is told of a record that does not hold, whose command stands at `offset` of its sheet.
@@ -77,7 +52,7 @@ pub fn finding(width: u32, offset: usize, state: &[u8], records: &[u8], from: us
     requires state_value { same_words (record_at width records.now from) (record_at width state.now 0) ≡ false }
     ensures { result ≡ difference offset (record_at width records.now from) (record_at width state.now 0) }
 {
-    let i = first_difference(width, state, records, from);
+    let i = agreeing(width, state, records, from);
     let at = i * (width as usize / 8);
     let found = word_at(width, records, from + at);
     let expected = word_at(width, state, at);
@@ -85,7 +60,7 @@ pub fn finding(width: u32, offset: usize, state: &[u8], records: &[u8], from: us
         offset: offset as u64,
         place: (i / 8) as u64,
         word: (i % 8) as u64,
-        found: found,
-        expected: expected,
+        found,
+        expected,
     }
 }

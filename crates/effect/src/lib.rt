@@ -1,6 +1,8 @@
 // The effect of one command on lent vectors, at the width that the sheet is read at.
 #![tactic(auto)]
 
+mod vectors;
+
 ghost use Rattle.std.specs.Prelude.{◌≡◌, true, ◌*◌, length};
 ghost use Rattle.quasigroup.specs.Tables.{known_width};
 ghost use Rattle.sheet.specs.Read.{place_count};
@@ -16,8 +18,8 @@ pub fn apply(width: u32, sheet: &[u8], c: Command, vectors: &mut [u8])
     ensures { vectors_in width vectors.new ≡ effect width sheet.now c (vectors_in width vectors.old) }
 {
     if width == 32 {
-        effect32::apply(sheet, c, vectors);
+        vectors::apply::<u32>(sheet, c, vectors);
     } else {
-        effect64::apply(sheet, c, vectors);
+        vectors::apply::<u64>(sheet, c, vectors);
     }
 }

@@ -1,5 +1,5 @@
 -- The library's bytes of a number are its lowest bytes, and a copy of them to a place is as many stores.
-use mathlib.Core.Path.{◌≡◌, refl, ap, ap₂, sym, ◌∙◌}
+use mathlib.Core.Path.{◌≡◌, refl, ap, ap₂, sym, subst, ◌∙◌}
 use mathlib.Core.List.{List, ◌∷◌, ◌++◌}
 use Prim.Native.Nat.{ℕ, zero, suc, ◌+◌, ◌*◌, ◌/◌, ◌%◌, ◌^◌, ◌≤◌, ◌<◌}
 use native.Mathlib.Nat.{pow-suc, div-one, div-div-eq-div-mul}
@@ -32,3 +32,19 @@ written k l i n {b} h e f =
 pub stored : (k : ℕ) (l v : List ℕ) (i x : ℕ) {n : ℕ} {r : List ℕ} → r ≡ sets l n (bytes k (get_or v i x)) → n ≡ i * k → i < length v
     → r ≡ sets l (i * k) (bytes k (get_or v i 0))
 stored k l v i x e f h = e ∙ ap₂ {C = List ℕ} (λ (n m : ℕ). sets l n (bytes k m)) f (get_or_default_zero v i x h)
+
+-- .. and below m, as it was stored
+pub below : (m : ℕ) (v : List ℕ) (i x : ℕ) → get_or v i x < m → i < length v → get_or v i 0 < m
+below m v i x h k = subst (λ (n : ℕ). n < m) (get_or_default_zero v i x k) h
+
+-- what holds of eight elements holds of each
+pub each : (P : ℕ → Type 0) → P 0 → P 1 → P 2 → P 3 → P 4 → P 5 → P 6 → P 7 → (i : ℕ) → i < 8 → P i
+each P a b c d e f g h zero l = a
+each P a b c d e f g h (suc zero) l = b
+each P a b c d e f g h (suc (suc zero)) l = c
+each P a b c d e f g h (suc (suc (suc zero))) l = d
+each P a b c d e f g h (suc (suc (suc (suc zero)))) l = e
+each P a b c d e f g h (suc (suc (suc (suc (suc zero))))) l = f
+each P a b c d e f g h (suc (suc (suc (suc (suc (suc zero)))))) l = g
+each P a b c d e f g h (suc (suc (suc (suc (suc (suc (suc zero))))))) l = h
+each P a b c d e f g h (suc (suc (suc (suc (suc (suc (suc (suc i)))))))) l = absurd (omega arith)

@@ -1,10 +1,11 @@
 // Words, and vectors of eight of them, in lent bytes, lowest byte first.
 #![tactic(auto)]
 
-ghost use Rattle.std.specs.Prelude.{◌≡◌, ◌++◌, ◌+◌, ◌*◌, ◌≤◌, ℕ, length, take, drop};
-ghost use Rattle.std.proofs.Common.{lit≤, refl};
+ghost use Rattle.std.specs.Prelude.{◌≡◌, ◌++◌, ◌+◌, ◌*◌, ◌^◌, ◌<◌, ◌≤◌, ℕ, get_or, length, take, drop};
+ghost use Rattle.std.proofs.Common.{lit<, lit≤, refl};
 ghost use Rattle.std.proofs.lemmas.List.Edits.{sets};
 ghost use Rattle.memory.specs.Bytes.{word_at, words_at, bytes, bytes_of};
+ghost use Rattle.lent_words.specs.Fits.{VectorFits};
 
 use word::{Unsigned, Word};
 
@@ -21,14 +22,18 @@ pub trait LentWord: Unsigned {
         ensures value { Self.number result ≡ word_at BYTES s.now at }
         ensures result_value { bytes BYTES (Self.number result) ≡ take BYTES (drop at s.now) };
 
-    // The bytes of `self` at `at`.
+    // The bytes of `self` at `at`. That they are all of it is said too, since a caller does not know the number to be one of the type's.
     fn store(self, out: &mut [u8], at: usize)
         requires { at + BYTES ≤ length out.old }
-        ensures { out.new ≡ sets out.old at (bytes BYTES (Self.number self)) };
+        ensures out_after { out.new ≡ sets out.old at (bytes BYTES (Self.number self)) }
+        ensures fits { Self.number self < 2 ^ Self.width };
 
     ghost most_bytes: { BYTES ≤ 8 };
 
     ghost bits_of_bytes: { Self.width ≡ 8 * BYTES };
+
+    // A vector of the type's words fits in memory, so that functions may hand one on that take and give none.
+    ghost vector_fits: { VectorFits Self.row };
 }
 
 impl LentWord for u32 {
@@ -47,6 +52,8 @@ impl LentWord for u32 {
     ghost most_bytes = { lit≤ tt };
 
     ghost bits_of_bytes = { refl };
+
+    ghost vector_fits = { lit< tt };
 }
 
 impl LentWord for u64 {
@@ -74,6 +81,8 @@ impl LentWord for u64 {
     ghost most_bytes = { lit≤ tt };
 
     ghost bits_of_bytes = { refl };
+
+    ghost vector_fits = { lit< tt };
 }
 
 // The word whose bytes stand at `at`, lowest byte first. That these are its bytes is said too, since a caller does not know the elements to be bytes.
@@ -85,10 +94,11 @@ pub fn load<U: LentWord>(s: &[u8], at: usize) -> Word<U>
     Word::new(U::load(s, at))
 }
 
-// The bytes of `x` at `at`, lowest byte first.
+// The bytes of `x` at `at`, lowest byte first, and that they are all of it.
 pub fn store<U: LentWord>(out: &mut [u8], at: usize, x: Word<U>)
     requires { at + U.BYTES ≤ length out.old }
-    ensures { out.new ≡ sets out.old at (bytes U.BYTES x) }
+    ensures out_after { out.new ≡ sets out.old at (bytes U.BYTES x) }
+    ensures fits { x < 2 ^ U.width }
 {
     x.bits().store(out, at);
 }
@@ -113,7 +123,8 @@ pub fn load_vector<U: LentWord>(s: &[u8]) -> [Word<U>; 8]
 // The words of `v` at the start of `out`; the rest of `out` stays.
 pub fn store_vector<U: LentWord>(out: &mut [u8], v: [Word<U>; 8])
     requires { 8 * U.BYTES ≤ length out.old }
-    ensures { out.new ≡ bytes_of U.BYTES v ++ drop (8 * U.BYTES) out.old }
+    ensures out_after { out.new ≡ bytes_of U.BYTES v ++ drop (8 * U.BYTES) out.old }
+    ensures fits { (i : ℕ) → i < 8 → get_or v i 0 < 2 ^ U.width }
 {
     store(out, 0, v[0]);
     store(out, U::BYTES, v[1]);

@@ -1,6 +1,6 @@
 // What differs from width to width, for code over the word's type.
-ghost use Rattle.std.specs.Prelude.{◌≡◌, ◌<◌, ℕ, get_or, refl};
-ghost use Rattle.quasigroup.specs.Tables.{Width as Tables, width32, width64};
+ghost use Rattle.std.specs.Prelude.{◌≡◌, ◌<◌, ℕ, true, get_or, refl};
+ghost use Rattle.quasigroup.specs.Tables.{Width as Tables, width32, width64, width_of, known_width};
 
 use crate::AMOUNTS;
 use word::{Unsigned, Word};
@@ -24,6 +24,10 @@ pub trait Width: Unsigned {
         ensures below { (i : ℕ) → get_or result i 0 < Self.width };
 
     ghost same_width: { tables.bits ≡ Self.width };
+
+    ghost known: { known_width Self.width ≡ true };
+
+    ghost of_width: { tables ≡ width_of Self.width };
 }
 
 impl Width for u32 {
@@ -46,6 +50,10 @@ impl Width for u32 {
     }
 
     ghost same_width = { refl };
+
+    ghost known = { refl };
+
+    ghost of_width = { refl };
 }
 
 impl Width for u64 {
@@ -68,4 +76,8 @@ impl Width for u64 {
     }
 
     ghost same_width = { refl };
+
+    ghost known = { refl };
+
+    ghost of_width = { refl };
 }

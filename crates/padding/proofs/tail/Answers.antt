@@ -12,7 +12,7 @@ returns-then-w-block c =
     let p = c.requires in
     let e = on_zeros a.buf.now a.w.now (a.mark ∷ []) p.3 (omega arith) c.copy_at.ensures c.copy_at-2.ensures in
     let l = length a.buf.now in
-    (search rules, tail_one a.block l a.w.now a.mark a.bits p.0 p.1 p.2 e (search rules) c.store.ensures)
+    (search rules, tail_one a.block l a.w.now a.mark a.bits p.0 p.1 p.2 e (search rules) c.store.ensures.out_after)
 
 pub returns : goal.returns
 returns c =
@@ -20,4 +20,4 @@ returns c =
     let p = c.requires in
     let e = on_zeros a.buf.now a.w.now (a.mark ∷ []) p.3 (omega arith) c.copy_at.ensures c.copy_at-2.ensures in
     let l = length a.buf.now in
-    (search rules, tail_two a.block l a.w.now a.mark a.bits p.0 p.1 p.2 e (search rules) c.store-2.ensures)
+    (search rules, tail_two a.block l a.w.now a.mark a.bits p.0 p.1 p.2 e (search rules) c.store-2.ensures.out_after)

@@ -1,8 +1,0 @@
-use Rattle.sheet.specs.Run.{vectors_in}
-use Rattle.sheet.proofs.Parts.{changed_both}
-use Rattle.effect32.proofs.swap.Goals as goal
-
-pub returns : goal.returns
-returns c =
-    let a = c.args in
-    changed_both (vectors_in 32 a.vectors.now) a.d a.s c.put.ensures c.put-2.ensures c.get.ensures c.get-x.ensures
