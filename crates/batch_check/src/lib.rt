@@ -28,9 +28,10 @@ fn total_length(lengths: &[u32]) -> u64
 pub fn answer_for(size: u32, joined: usize, lengths: &[u32], room: usize) -> Answer
     ensures { result ≡ batch_answer size joined lengths.now room }
 {
+    let whole = total_length(lengths) == joined as u64;
     answer::require(refusal::is_known(size), Refusal::Size)?;
     answer::require(lengths.len() <= MOST, Refusal::MessageCount)?;
-    answer::require(total_length(lengths) == joined as u64, Refusal::JoinedLength)?;
+    answer::require(whole, Refusal::JoinedLength)?;
     let written = lengths.len() * ((size / 8) as usize);
     answer::require(written <= room, Refusal::Output)?;
     Ok(written as u64)

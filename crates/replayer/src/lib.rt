@@ -31,7 +31,10 @@ fn replay_at(
     requires { (known_width width ≡ true) × (length state.old ≡ record_length width) }
     ensures { result ≡ replay_answer width sheet.now vectors.now records.now }
 {
-    answer::require(precheck::vectors_fit(width, vectors.len()), Refusal::Operand)?;
+    answer::require(
+        precheck::vectors_fit(width, vectors.len()),
+        Refusal::Operand,
+    )?;
     let mut none = [0u16; 0];
     let counts = scanner::check(width, sheet, &mut none)?;
     records_answer(width, records.len(), counts.commands)?;

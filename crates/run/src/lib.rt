@@ -15,7 +15,10 @@ fn forward_at(width: u32, vectors: &mut [u8], sheet: &[u8]) -> Answer
     ensures value { result ≡ run_answer width sheet.now vectors.old }
     ensures vectors_after { vectors.new ≡ run_bytes Forward width sheet.now vectors.old }
 {
-    answer::require(precheck::vectors_fit(width, vectors.len()), Refusal::Operand)?;
+    answer::require(
+        precheck::vectors_fit(width, vectors.len()),
+        Refusal::Operand,
+    )?;
     let mut none = [0u16; 0];
     let counts = scanner::check(width, sheet, &mut none)?;
     interpreter::forward(width, sheet, vectors);
@@ -28,7 +31,10 @@ fn backward_at(width: u32, vectors: &mut [u8], sheet: &[u8]) -> Answer
     ensures value { result ≡ run_answer width sheet.now vectors.old }
     ensures vectors_after { vectors.new ≡ run_bytes Backward width sheet.now vectors.old }
 {
-    answer::require(precheck::vectors_fit(width, vectors.len()), Refusal::Operand)?;
+    answer::require(
+        precheck::vectors_fit(width, vectors.len()),
+        Refusal::Operand,
+    )?;
     let mut offsets = [0u16; MOST];
     let counts = scanner::check(width, sheet, &mut offsets)?;
     interpreter::backward(width, sheet, &offsets[..counts.commands], vectors);

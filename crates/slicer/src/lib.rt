@@ -14,7 +14,10 @@ fn slice_at(width: u32, vectors: &mut [u8], sheet: &[u8], start: usize, budget: 
     ensures value { result ≡ slice_answer budget width sheet.now start vectors.old }
     ensures vectors_after { vectors.new ≡ slice_bytes budget width sheet.now start vectors.old }
 {
-    answer::require(precheck::vectors_fit(width, vectors.len()), Refusal::Operand)?;
+    answer::require(
+        precheck::vectors_fit(width, vectors.len()),
+        Refusal::Operand,
+    )?;
     let _whole = precheck::start_answer(width, sheet, start)?;
     let p = stepper::advance(width, sheet, start, budget, vectors);
     let offset = p.offset as u16;
