@@ -1,14 +1,15 @@
 // The two kinds of hash, each by the type of its words.
-ghost use Rattle.std.specs.Prelude.{◌≡◌, ◌*◌, ◌≤◌, ℕ, refl};
-ghost use Rattle.std.proofs.Common.{lit<, lit≤};
+ghost use Rattle.std.specs.Prelude.{◌≡◌, ◌*◌, ℕ, refl};
+ghost use Rattle.std.proofs.Common.{lit<};
 ghost use Rattle.digest.specs.Kind as digest;
-ghost use Rattle.digest.specs.Pipe.{written};
+ghost use Rattle.digest.specs.Pipe.{Pipe, written};
 ghost use Rattle.digest.specs.Step.{step};
+ghost use Rattle.digest.proofs.Answers.{Sized, narrow_sized, wide_sized};
 ghost use Rattle.hash.specs.Fits.{PipeFits, AbsorbedFits};
 
-use compression::Pipe;
 use lent_words::LentWord;
 use tables::Width;
+use word::Word;
 
 // A type of words with its kind of hash: the two sizes in bits, and the starting pipe of each.
 pub trait Kind: Width + LentWord {
@@ -22,22 +23,23 @@ pub trait Kind: Width + LentWord {
 
     const LARGE: u64;
 
-    fn start(size: u32) -> Pipe<Self>
-        ensures { result ≡ kind.start size };
+    fn start_first(size: u32) -> [Word<Self>; 8]
+        ensures { result ≡ (kind.start size).first };
+
+    fn start_second(size: u32) -> [Word<Self>; 8]
+        ensures { result ≡ (kind.start size).second };
 
     ghost small: { kind.small ≡ SMALL };
 
     ghost large: { kind.large ≡ LARGE };
 
-    ghost small_in_vector: { SMALL ≤ 64 * Self.BYTES };
-
-    ghost large_in_vector: { LARGE ≤ 64 * Self.BYTES };
+    ghost sized: { Sized kind };
 
     ghost block_length: { kind.block ≡ 16 * Self.BYTES };
 
     ghost block_step: { kind.step ≡ step Self.tables };
 
-    ghost pipe_bytes: { kind.written ≡ written Self.BYTES };
+    ghost pipe_bytes: { (p : Pipe) → kind.written p ≡ written Self.BYTES p };
 
     // A pipe fits in memory, by itself and with a block's bytes, so that functions may make one.
     ghost pipe_fits: { PipeFits Self.row };
@@ -57,25 +59,25 @@ impl Kind for u32 {
 
     const LARGE: u64 = 256;
 
-    fn start(size: u32) -> Pipe<u32>
-        ensures { result ≡ digest.narrow_kind.start size }
-    {
-        block::start::narrow(size)
+    fn start_first(size: u32) -> [Word<u32>; 8] {
+        block::start::narrow(size).first
+    }
+
+    fn start_second(size: u32) -> [Word<u32>; 8] {
+        block::start::narrow(size).second
     }
 
     ghost small = { refl };
 
     ghost large = { refl };
 
-    ghost small_in_vector = { lit≤ tt };
-
-    ghost large_in_vector = { lit≤ tt };
+    ghost sized = { narrow_sized };
 
     ghost block_length = { refl };
 
     ghost block_step = { refl };
 
-    ghost pipe_bytes = { refl };
+    ghost pipe_bytes = { λ p. refl };
 
     ghost pipe_fits = { lit< tt };
 
@@ -94,25 +96,25 @@ impl Kind for u64 {
 
     const LARGE: u64 = 512;
 
-    fn start(size: u32) -> Pipe<u64>
-        ensures { result ≡ digest.wide_kind.start size }
-    {
-        block::start::wide(size)
+    fn start_first(size: u32) -> [Word<u64>; 8] {
+        block::start::wide(size).first
+    }
+
+    fn start_second(size: u32) -> [Word<u64>; 8] {
+        block::start::wide(size).second
     }
 
     ghost small = { refl };
 
     ghost large = { refl };
 
-    ghost small_in_vector = { lit≤ tt };
-
-    ghost large_in_vector = { lit≤ tt };
+    ghost sized = { wide_sized };
 
     ghost block_length = { refl };
 
     ghost block_step = { refl };
 
-    ghost pipe_bytes = { refl };
+    ghost pipe_bytes = { λ p. refl };
 
     ghost pipe_fits = { lit< tt };
 

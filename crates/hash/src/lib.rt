@@ -113,6 +113,16 @@ fn close<U: Kind>(p: Pipe<U>, w: &[u8], mark: u8, bits: u64) -> Pipe<U>
     block::steps(p, &buf[..n])
 }
 
+// The starting pipe of a size.
+fn start<U: Kind>(size: u32) -> Pipe<U>
+    ensures { result ≡ U.kind.start size }
+{
+    Pipe {
+        first: U::start_first(size),
+        second: U::start_second(size),
+    }
+}
+
 // A hash of `size` bits is opened.
 pub fn open<U: Kind, const BLOCK: usize>(size: u32) -> Outcome<U, BLOCK>
     requires { BLOCK ≡ 16 * U.BYTES }
@@ -134,7 +144,7 @@ pub fn open<U: Kind, const BLOCK: usize>(size: u32) -> Outcome<U, BLOCK>
     }
     let state = Hash {
         size: size as u64,
-        pipe: U::start(size),
+        pipe: start(size),
         waiting: [0; BLOCK],
         total: 0,
     };
@@ -197,8 +207,8 @@ pub fn digest<U: Kind>(size: u32, message: &[u8], out: &mut [u8]) -> Answer
     ensures out_after { out.new ≡ digest_out U.kind size message.now out.old }
 {
     let length = refusal::digesting(U::SMALL, U::LARGE, size as u64, message.len(), out.len())?;
-    let start: Pipe<U> = U::start(size);
-    let q = block::steps(start, message);
+    let p: Pipe<U> = start(size);
+    let q = block::steps(p, message);
     let block = 16 * U::BYTES;
     let from = message.len() / block * block;
     let r = close(q, &message[from..], 0x80, 8 * (message.len() as u64));
