@@ -1,5 +1,5 @@
 // The two kinds of hash, each by the type of its words.
-ghost use Rattle.std.specs.Prelude.{◌≡◌, ◌*◌, ℕ, refl};
+ghost use Rattle.std.specs.Prelude.{◌≡◌, ◌*◌, [], ℕ, get_or, map, refl};
 ghost use Rattle.std.proofs.Common.{lit<};
 ghost use Rattle.digest.specs.Kind as digest;
 ghost use Rattle.digest.specs.Pipe.{Pipe, written};
@@ -9,7 +9,6 @@ ghost use Rattle.hash.specs.Fits.{PipeFits, AbsorbedFits};
 
 use lent_words::LentWord;
 use tables::Width;
-use word::Word;
 
 // A type of words with its kind of hash: the two sizes in bits, and the starting pipe of each.
 pub trait Kind: Width + LentWord {
@@ -23,11 +22,10 @@ pub trait Kind: Width + LentWord {
 
     const LARGE: u64;
 
-    fn start_first(size: u32) -> [Word<Self>; 8]
-        ensures { result ≡ (kind.start size).first };
-
-    fn start_second(size: u32) -> [Word<Self>; 8]
-        ensures { result ≡ (kind.start size).second };
+    // The two vectors of the starting pipe of a size.
+    fn start(size: u32) -> [[Self; 8]; 2]
+        ensures { (map Self.number (get_or result 0 []) ≡ (kind.start size).first)
+            × (map Self.number (get_or result 1 []) ≡ (kind.start size).second) };
 
     ghost small: { kind.small ≡ SMALL };
 
@@ -59,12 +57,11 @@ impl Kind for u32 {
 
     const LARGE: u64 = 256;
 
-    fn start_first(size: u32) -> [Word<u32>; 8] {
-        block::start::narrow(size).first
-    }
-
-    fn start_second(size: u32) -> [Word<u32>; 8] {
-        block::start::narrow(size).second
+    fn start(size: u32) -> [[u32; 8]; 2] {
+        if size == 224 {
+            return tables::START_224;
+        }
+        tables::START_256
     }
 
     ghost small = { refl };
@@ -96,12 +93,11 @@ impl Kind for u64 {
 
     const LARGE: u64 = 512;
 
-    fn start_first(size: u32) -> [Word<u64>; 8] {
-        block::start::wide(size).first
-    }
-
-    fn start_second(size: u32) -> [Word<u64>; 8] {
-        block::start::wide(size).second
+    fn start(size: u32) -> [[u64; 8]; 2] {
+        if size == 384 {
+            return tables::START_384;
+        }
+        tables::START_512
     }
 
     ghost small = { refl };

@@ -117,9 +117,10 @@ fn close<U: Kind>(p: Pipe<U>, w: &[u8], mark: u8, bits: u64) -> Pipe<U>
 fn start<U: Kind>(size: u32) -> Pipe<U>
     ensures { result ≡ U.kind.start size }
 {
+    let t = U::start(size);
     Pipe {
-        first: U::start_first(size),
-        second: U::start_second(size),
+        first: word::words(t[0]),
+        second: word::words(t[1]),
     }
 }
 
