@@ -85,7 +85,11 @@ fn straight<U: Width + LentWord, const BLOCK: usize>(p: Pipe<U>, s: &[u8]) -> Ab
 }
 
 // The pending bytes `a`, and then `s`: only what completes a block that is begun, and what is left over, is copied.
-fn absorb<U: Width + LentWord, const BLOCK: usize>(p: Pipe<U>, a: &[u8], s: &[u8]) -> Absorbed<U, BLOCK>
+fn absorb<U: Width + LentWord, const BLOCK: usize>(
+    p: Pipe<U>,
+    a: &[u8],
+    s: &[u8],
+) -> Absorbed<U, BLOCK>
     requires { (BLOCK ≡ 16 * U.BYTES) × (length a.now < BLOCK) }
     ensures { (result.pipe ≡ compressed BLOCK (step U.tables) p (a.now ++ s.now))
         × (result.waiting ≡ filled BLOCK (rest BLOCK (a.now ++ s.now))) }
@@ -184,7 +188,12 @@ pub fn feed<U: Kind, const BLOCK: usize>(hash: Hash<U, BLOCK>, bytes: &[u8]) -> 
 }
 
 // The digest of what was fed and then the `count` highest bits of `last`, to the start of `out`. The caller's state stays as it is, and may be fed further.
-pub fn finish<U: Kind, const BLOCK: usize>(hash: Hash<U, BLOCK>, last: u8, count: u32, out: &mut [u8]) -> Answer
+pub fn finish<U: Kind, const BLOCK: usize>(
+    hash: Hash<U, BLOCK>,
+    last: u8,
+    count: u32,
+    out: &mut [u8],
+) -> Answer
     requires { BLOCK ≡ 16 * U.BYTES }
     ensures value { result ≡ finish_bits_answer U.kind hash count out.old }
     ensures out_after { out.new ≡ finish_bits_out U.kind hash last count out.old }

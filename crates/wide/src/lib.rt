@@ -40,13 +40,17 @@ impl From<Wide> for Hash<u64, 128> {
     ghost from_gives = { λ h r. r ≡ hash_of h };
 
     fn from(h: Wide) -> Hash<u64, 128> {
+        let p = h.pipe;
+        let first = p.first;
+        let second = p.second;
+        let waiting = h.waiting;
         Hash {
             size: h.size,
             pipe: Pipe {
-                first: word::words(h.pipe.first),
-                second: word::words(h.pipe.second),
+                first: word::words(first),
+                second: word::words(second),
             },
-            waiting: h.waiting,
+            waiting,
             total: h.total,
         }
     }
@@ -56,14 +60,17 @@ impl From<Hash<u64, 128>> for Wide {
     ghost from_gives = { λ h r. r ≡ wide_of h };
 
     fn from(h: Hash<u64, 128>) -> Wide {
-        let pipe = h.pipe;
+        let p = h.pipe;
+        let first = p.first;
+        let second = p.second;
+        let waiting = h.waiting;
         Wide {
             size: h.size,
             pipe: Pipe64 {
-                first: word::bits(pipe.first),
-                second: word::bits(pipe.second),
+                first: word::bits(first),
+                second: word::bits(second),
             },
-            waiting: h.waiting,
+            waiting,
             total: h.total,
         }
     }

@@ -1,8 +1,7 @@
 use Rattle.std.proofs.Common.{ap, refl, sym, ◌∙◌, arith, rules, length, not}
 use Rattle.answer.specs.Refuse.{is_done}
-use Rattle.answer.proofs.Results.{handed_on}
 use Rattle.digest.specs.Refusals.{finishing_bits}
-use Rattle.digest.proofs.Cases.{finish_refused, finish_goes}
+use Rattle.digest.proofs.Cases.{finish_goes}
 use Rattle.hash.proofs.Numbers.{by_sizes}
 use Rattle.hash.proofs.finish.Goals as goal
 

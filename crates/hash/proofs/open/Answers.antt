@@ -11,8 +11,7 @@ returns-then-is_err g c =
     let l = g.met.U.Kind in
     let n = c.args.size in
     let e = by_sizes g.U.Kind.kind l.small l.large c.SMALL.ensures c.LARGE.ensures (λ s t. opening s t n) c.opening-answer.ensures in
-    let both = open_refused l.sized n e refl (erred _ c.is_err.ensures.value c.if-is_err.true) in
-    (
+    let both = open_refused l.sized n e refl (erred _ c.is_err.ensures.value c.if-is_err.true) in (
       both.0,
       ap₂ {C = Hash} (λ m z. record { size = 0; pipe = record { first = replicate 8 z; second = replicate 8 z }; waiting = replicate m 0; total = 0 })
           (c.requires ∙ sym l.block_length) c.from_u8-zeros.ensures
@@ -24,8 +23,7 @@ returns g c =
     let l = g.met.U.Kind in
     let n = c.args.size in
     let e = by_sizes g.U.Kind.kind l.small l.large c.SMALL.ensures c.LARGE.ensures (λ s t. opening s t n) c.opening-answer.ensures in
-    let both = open_accepted l.sized n e refl (went _ c.is_err.ensures.value c.if-is_err.false) c.start.ensures in
-    (
+    let both = open_accepted l.sized n e refl (went _ c.is_err.ensures.value c.if-is_err.false) c.start.ensures in (
       both.0,
       ap {B = Hash} (λ m. record { size = n; pipe = c.start.result; waiting = replicate m 0; total = 0 }) (c.requires ∙ sym l.block_length) ∙ both.1,
     )

@@ -1,0 +1,7 @@
+use Rattle.std.proofs.Common.{ap, ◌∙◌}
+use Rattle.narrow.specs.Outcomes.{narrow_of, opened}
+use Rattle.narrow.proofs.open.Goals as goal
+
+pub returns : goal.returns
+unfolding opened
+returns c = let e = c.open-r.ensures in λ i. record { answer = e.0 i; state = (c.from.ensures ∙ ap narrow_of e.1) i }
