@@ -8,7 +8,12 @@ use answer::Answer;
 use hash::Kind;
 
 // The same for the sizes of one kind.
-fn digest_of_kind<U: Kind, const BLOCK: usize>(size: u32, first: &[u8], second: &[u8], out: &mut [u8]) -> Answer
+fn digest_of_kind<U: Kind, const BLOCK: usize>(
+    size: u32,
+    first: &[u8],
+    second: &[u8],
+    out: &mut [u8],
+) -> Answer
     requires { BLOCK ≡ 16 * U.BYTES }
     ensures value { result ≡ digest_answer U.kind size (first.now ++ second.now) out.old }
     ensures out_after { out.new ≡ digest_out U.kind size (first.now ++ second.now) out.old }
