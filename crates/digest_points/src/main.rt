@@ -113,7 +113,7 @@ fn key_block(size: u32, block: usize, key: &[u8]) -> [u8; 128]
 {
     let mut k = [0u8; 128];
     if block < key.len() {
-        one_call::digest(size, key, &mut k);
+        let _ = one_call::digest(size, key, &mut k);
         return k;
     }
     memory::copy_at(&mut k, 0, key);
@@ -130,13 +130,13 @@ fn hmac(size: u32, block: usize, key: &[u8], message: &[u8], out: &mut [u8])
     memory::copy_at(&mut inner, block, message);
     let inner_end = block + message.len();
     let mut middle = [0u8; 64];
-    one_call::digest(size, &inner[..inner_end], &mut middle);
+    let _ = one_call::digest(size, &inner[..inner_end], &mut middle);
     let mut outer = [0u8; 192];
     mask(&k[..block], 0x5c, &mut outer);
     let n = (size / 8) as usize;
     memory::copy_at(&mut outer, block, &middle[..n]);
     let outer_end = block + n;
-    one_call::digest(size, &outer[..outer_end], out);
+    let _ = one_call::digest(size, &outer[..outer_end], out);
 }
 
 // A state that no call made: any size and total.
@@ -240,16 +240,16 @@ fn narrow_cut(message: &[u8], at: usize) -> u64
     ensures { result ≤ 1 }
 {
     let mut whole = [0u8; 32];
-    one_call::digest(256, message, &mut whole);
+    let _ = one_call::digest(256, message, &mut whole);
     let mut out = [0u8; 32];
     let o = narrow::open(256);
     let opened = o.state;
     let f = narrow::feed(opened, &message[..at]);
     let first = f.state;
-    narrow::finish(first, 0, 0, &mut out);
+    let _ = narrow::finish(first, 0, 0, &mut out);
     let g = narrow::feed(first, &message[at..]);
     let second = g.state;
-    narrow::finish(second, 0, 0, &mut out);
+    let _ = narrow::finish(second, 0, 0, &mut out);
     if whole == out {
         return 1;
     }
@@ -368,16 +368,16 @@ fn wide_cut(message: &[u8], at: usize) -> u64
     ensures { result ≤ 1 }
 {
     let mut whole = [0u8; 64];
-    one_call::digest(512, message, &mut whole);
+    let _ = one_call::digest(512, message, &mut whole);
     let mut out = [0u8; 64];
     let o = wide::open(512);
     let opened = o.state;
     let f = wide::feed(opened, &message[..at]);
     let first = f.state;
-    wide::finish(first, 0, 0, &mut out);
+    let _ = wide::finish(first, 0, 0, &mut out);
     let g = wide::feed(first, &message[at..]);
     let second = g.state;
-    wide::finish(second, 0, 0, &mut out);
+    let _ = wide::finish(second, 0, 0, &mut out);
     if whole == out {
         return 1;
     }

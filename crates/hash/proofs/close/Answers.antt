@@ -10,4 +10,5 @@ pub returns : goal.returns
 returns g c =
     let a = c.args in
     let l = g.met.U.Kind in
-    closed_by g.U.Kind.kind a.p a.w.now a.mark a.bits (rw (← l.block_length, ← l.block_step) at c.steps.ensures) (rw (c.BYTES.ensures, ← l.block_length) at c.tail-n.ensures.1)
+    closed_by g.U.Kind.kind a.p a.w.now a.mark a.bits (rw (← l.block_length, ← l.block_step) at c.steps.ensures)
+    (rw (c.BYTES.ensures, ← l.block_length) at c.tail-n.ensures.1)

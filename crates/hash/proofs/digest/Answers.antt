@@ -66,5 +66,5 @@ returns-clause-out_after g c =
     let e = by_sizes g.U.Kind.kind l.small l.large c.SMALL.ensures c.LARGE.ensures
     (λ m n. digesting m n a.size (length a.message.now) (length a.out.now)) c.digesting.ensures in
     let goes = digest_goes l.sized a.size a.message.now a.out.now e refl (ap (λ r. not (is_done r)) c.in_ok-length.was) in
-    goes.written c.start-p.ensures (rw (← l.block_length, ← l.block_step) at c.steps-q.ensures) (rw (c.BYTES-block.ensures, ← l.block_length) at c.close-r.ensures)
-    (rw (← l.pipe_bytes c.close-r.result) at c.write.ensures)
+    goes.written c.start-p.ensures (rw (← l.block_length, ← l.block_step) at c.steps-q.ensures)
+    (rw (c.BYTES-block.ensures, ← l.block_length) at c.close-r.ensures) (rw (← l.pipe_bytes c.close-r.result) at c.write.ensures)

@@ -68,4 +68,5 @@ returns-clause-out_after g c =
     let goes = finish_goes l.sized (record { size = h.size; pipe = h.pipe; waiting = h.waiting; total = h.total }) a.last a.count a.out.now e refl
     (search rules ∙ c.requires ∙ sym l.block_length) (ap (λ r. not (is_done r)) c.in_ok-length.was) in
     rw (← c.hash.view_is)
-    (goes.written c.marked-mark.ensures c.bit_length-bits.ensures (rw (c.requires ∙ sym l.block_length) at c.close-q.ensures) (rw (← l.pipe_bytes c.close-q.result) at c.write.ensures))
+    (goes.written c.marked-mark.ensures c.bit_length-bits.ensures
+    (rw (c.requires ∙ sym l.block_length) at c.close-q.ensures) (rw (← l.pipe_bytes c.close-q.result) at c.write.ensures))

@@ -45,7 +45,8 @@ returns-in_err-fed g c =
     let a = c.args in
     let l = g.met.U.Kind in
     let both = second_refused l.sized a.size a.first.now a.second.now a.out.now c.open-opened.ensures refl
-    (ap (λ (x : Answer). not (is_done x)) c.in_ok-opened.was) c.feed-begun.ensures refl (ap (λ (x : Answer). not (is_done x)) c.in_ok-begun.was) c.feed-fed.ensures refl
+    (ap (λ (x : Answer). not (is_done x)) c.in_ok-opened.was) c.feed-begun.ensures refl
+    (ap (λ (x : Answer). not (is_done x)) c.in_ok-begun.was) c.feed-fed.ensures refl
     (ap (λ (x : Answer). not (is_done x)) c.in_err-fed.was) in
     record {
       value = handed_on _ c.from_residual-in_err-fed.ensures ∙ sym c.in_err-fed.was ∙ both.0;
@@ -57,7 +58,8 @@ returns g c =
     let a = c.args in
     let l = g.met.U.Kind in
     let both = both_fed l.sized a.size a.first.now a.second.now a.out.now c.open-opened.ensures refl
-    (ap (λ (x : Answer). not (is_done x)) c.in_ok-opened.was) c.feed-begun.ensures refl (ap (λ (x : Answer). not (is_done x)) c.in_ok-begun.was) c.feed-fed.ensures refl
+    (ap (λ (x : Answer). not (is_done x)) c.in_ok-opened.was) c.feed-begun.ensures refl
+    (ap (λ (x : Answer). not (is_done x)) c.in_ok-begun.was) c.feed-fed.ensures refl
     (ap (λ (x : Answer). not (is_done x)) c.in_ok-fed.was) 0 (c.finish.ensures.value, c.finish.ensures.out_after) in
     record {
       value = both.0;
