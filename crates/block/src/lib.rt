@@ -1,7 +1,5 @@
-// The starting pipes, and one block's step; and a pipe in lent bytes, a block forward and back.
+// One block's step, and all whole blocks; and a pipe in lent bytes, a block forward and back.
 #![tactic(auto)]
-
-pub mod start;
 
 ghost use Rattle.std.specs.Prelude.{◌≡◌, ◌*◌, ◌++◌, ◌≤◌, length, drop};
 ghost use Rattle.digest.specs.Blocks.{compressed, last_bytes};

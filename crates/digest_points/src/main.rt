@@ -5,12 +5,10 @@
 ghost use Rattle.std.specs.Prelude.{◌<◌, ◌≤◌, length};
 
 use answer::Answer;
-use compression32::Pipe32;
-use compression64::Pipe64;
-use narrow::Narrow;
+use narrow::{Narrow, Pipe32};
 use refusal::LIMIT;
 use std::io;
-use wide::Wide;
+use wide::{Pipe64, Wide};
 
 fn say(rt: &impl Print, text: &[u8]) -> io::Result<()> {
     rt.write_all(text)

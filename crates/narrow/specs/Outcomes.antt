@@ -1,11 +1,16 @@
 -- The code's hash in progress as the definitions' one, and what its operations return. C's contracts cite `hash_of`, `narrow_of` and `fed`; `opened` only
 -- this crate's own.
 use Rattle.std.specs.Prelude.{List, ℕ}
+use Rattle.digest.specs.Pipe.{Pipe}
 use Rattle.digest.specs.Kind.{narrow_kind}
 use Rattle.digest.specs.State.{Hash, open_answer, open_state, feed_answer, feed_state}
-use Rattle.compression32.specs.Pipes.{pipe32}
+use Rattle.narrow.specs.declared.Pipe32.{Pipe32}
 use Rattle.narrow.specs.declared.Narrow.{Narrow}
 use Rattle.narrow.specs.declared.Outcome.{Outcome}
+
+-- the pipe
+abbrev pub pipe32 : Pipe32 → Pipe
+pipe32 p = record { first = p.first; second = p.second }
 
 abbrev pub hash_of : Narrow → Hash
 hash_of h = record { size = h.size; pipe = pipe32 h.pipe; waiting = h.waiting; total = h.total }

@@ -1,18 +1,23 @@
-// The wide kind of hash, of 384 and 512 bits: a hash in progress, and the digest of a whole message.
+// The wide kind of hash, of 384 and 512 bits, as C has it: a hash in progress, and the digest of a whole message.
 #![tactic(auto)]
 
-ghost use Rattle.std.specs.Prelude.{◌≡◌, ◌++◌, ◌+◌, ◌<◌, ◌≤◌, length};
-ghost use Rattle.quasigroup.specs.Tables.{width64};
-ghost use Rattle.digest.specs.Blocks.{compressed, rest, filled};
-ghost use Rattle.digest.specs.Step.{step};
+ghost use Rattle.std.specs.Prelude.{◌≡◌};
 ghost use Rattle.digest.specs.Kind.{wide_kind};
-ghost use Rattle.digest.specs.State.{closed, finish_bits_answer, finish_bits_out};
+ghost use Rattle.digest.specs.State.{finish_bits_answer, finish_bits_out};
 ghost use Rattle.digest.specs.OneCall.{digest_answer, digest_out};
-ghost use Rattle.compression64.specs.Pipes.{pipe64};
-ghost use Rattle.wide.specs.Outcomes.{hash_of, opened, fed};
+ghost use Rattle.wide.specs.Outcomes.{hash_of, wide_of, opened, fed};
 
 use answer::Answer;
-use compression64::Pipe64;
+use compression::Pipe;
+use hash::Hash;
+
+// The pipe: words 0 to 7 and words 8 to 15.
+#[repr(C)]
+#[derive(Clone, Copy)]
+pub struct Pipe64 {
+    pub first: [u64; 8],
+    pub second: [u64; 8],
+}
 
 // A hash in progress. Of `waiting` the first `total` modulo 128 bytes are waiting, which is document 01's word: fed, and not yet part of a block.
 // `size` has 64 bits so that C's layout has no padding, and these fields are every byte of the struct.
@@ -31,118 +36,66 @@ pub struct Outcome {
     pub state: Wide,
 }
 
-#[derive(Clone, Copy)]
-struct Absorbed {
-    pipe: Pipe64,
-    waiting: [u8; 128],
-}
+impl From<Wide> for Hash<u64, 128> {
+    ghost from_gives = { λ h r. r ≡ hash_of h };
 
-// `a` and then `b`, with zeros behind them.
-fn hold(a: &[u8], b: &[u8]) -> [u8; 128]
-    requires { length a.now + length b.now ≤ 128 }
-    ensures { result ≡ filled 128 (a.now ++ b.now) }
-{
-    let mut w = [0u8; 128];
-    memory::copy_at(&mut w, 0, a);
-    memory::copy_at(&mut w, a.len(), b);
-    w
-}
-
-// Whole blocks of `s`, and the rest held.
-fn straight(p: Pipe64, s: &[u8]) -> Absorbed
-    ensures { (pipe64 result.pipe ≡ compressed 128 (step width64) (pipe64 p) s.now) × (result.waiting ≡ filled 128 (rest 128 s.now)) }
-{
-    let pipe = block64::steps(p, s);
-    let from = s.len() / 128 * 128;
-    let waiting = hold(&s[from..], &s[..0]);
-    Absorbed { pipe, waiting }
-}
-
-// The pending bytes `a`, and then `s`: only what completes a block that is begun, and what is left over, is copied.
-fn absorb(p: Pipe64, a: &[u8], s: &[u8]) -> Absorbed
-    requires { length a.now < 128 }
-    ensures { (pipe64 result.pipe ≡ compressed 128 (step width64) (pipe64 p) (a.now ++ s.now))
-        × (result.waiting ≡ filled 128 (rest 128 (a.now ++ s.now))) }
-{
-    if a.len() == 0 {
-        return straight(p, s);
+    fn from(h: Wide) -> Hash<u64, 128> {
+        let p = h.pipe;
+        let first = p.first;
+        let second = p.second;
+        let waiting = h.waiting;
+        Hash {
+            size: h.size,
+            pipe: Pipe {
+                first: word::words(first),
+                second: word::words(second),
+            },
+            waiting,
+            total: h.total,
+        }
     }
-    let need = 128 - a.len();
-    if s.len() < need {
-        let waiting = hold(a, s);
-        return Absorbed { pipe: p, waiting };
-    }
-    let first = hold(a, &s[..need]);
-    let q = block64::step(p, &first);
-    straight(q, &s[need..])
 }
 
-// The pipe behind the last block: the pending bytes `w`, the byte of the one bit, zeros and the length in bits.
-fn close(p: Pipe64, w: &[u8], mark: u8, bits: u64) -> Pipe64
-    requires { length w.now < 128 }
-    ensures { pipe64 result ≡ closed wide_kind (pipe64 p) w.now (length w.now) mark bits }
-{
-    let mut buf = [0u8; 256];
-    let n = padding::tail(&mut buf, w, 128, mark, bits);
-    block64::steps(p, &buf[..n])
+impl From<Hash<u64, 128>> for Wide {
+    ghost from_gives = { λ h r. r ≡ wide_of h };
+
+    fn from(h: Hash<u64, 128>) -> Wide {
+        let p = h.pipe;
+        let first = p.first;
+        let second = p.second;
+        let waiting = h.waiting;
+        Wide {
+            size: h.size,
+            pipe: Pipe64 {
+                first: word::bits(first),
+                second: word::bits(second),
+            },
+            waiting,
+            total: h.total,
+        }
+    }
 }
 
 // A hash of `size` bits is opened.
 pub fn open(size: u32) -> Outcome
     ensures { result ≡ opened size }
 {
-    let answer = refusal::opening(384, 512, size as u64);
-    if answer.is_err() {
-        let pipe = Pipe64 {
-            first: [0; 8],
-            second: [0; 8],
-        };
-        let state = Wide {
-            size: 0,
-            pipe,
-            waiting: [0; 128],
-            total: 0,
-        };
-        return Outcome { answer, state };
+    let r = hash::open::<u64, 128>(size);
+    Outcome {
+        answer: r.answer,
+        state: Wide::from(r.state),
     }
-    let pipe = block64::start(size);
-    let state = Wide {
-        size: size as u64,
-        pipe,
-        waiting: [0; 128],
-        total: 0,
-    };
-    Outcome { answer, state }
 }
 
 // `hash` takes `bytes`.
 pub fn feed(hash: Wide, bytes: &[u8]) -> Outcome
     ensures { result ≡ fed hash bytes.now }
 {
-    let size = hash.size;
-    let total = hash.total;
-    let answer = refusal::feeding(384, 512, size, total, bytes.len());
-    if answer.is_err() {
-        return Outcome {
-            answer,
-            state: hash,
-        };
+    let r = hash::feed(Hash::from(hash), bytes);
+    Outcome {
+        answer: r.answer,
+        state: Wide::from(r.state),
     }
-    let at = (total % 128) as usize;
-    let p = hash.pipe;
-    let w = hash.waiting;
-    let t = absorb(p, &w[..at], bytes);
-    let pipe = t.pipe;
-    let waiting = t.waiting;
-    let len = bytes.len() as u64;
-    let sum = total + len;
-    let state = Wide {
-        size,
-        pipe,
-        waiting,
-        total: sum,
-    };
-    Outcome { answer, state }
 }
 
 // The same for a hash that is lent, and finds itself advanced.
@@ -160,17 +113,7 @@ pub fn finish(hash: Wide, last: u8, count: u32, out: &mut [u8]) -> Answer
     ensures value { result ≡ finish_bits_answer wide_kind (hash_of hash) count out.old }
     ensures out_after { out.new ≡ finish_bits_out wide_kind (hash_of hash) last count out.old }
 {
-    let size = hash.size;
-    let total = hash.total;
-    let length = refusal::finishing(384, 512, size, total, count, out.len())?;
-    let at = (total % 128) as usize;
-    let p = hash.pipe;
-    let w = hash.waiting;
-    let mark = padding::marked(last, count);
-    let bits = padding::bit_length(total, count);
-    let q = close(p, &w[..at], mark, bits);
-    block64::write(q, (size / 8) as usize, out);
-    Ok(length)
+    hash::finish(Hash::from(hash), last, count, out)
 }
 
 // The digest of `message`, to the start of `out`, for this kind's sizes.
@@ -178,10 +121,5 @@ pub fn digest(size: u32, message: &[u8], out: &mut [u8]) -> Answer
     ensures value { result ≡ digest_answer wide_kind size message.now out.old }
     ensures out_after { out.new ≡ digest_out wide_kind size message.now out.old }
 {
-    let length = refusal::digesting(384, 512, size as u64, message.len(), out.len())?;
-    let q = block64::steps(block64::start(size), message);
-    let from = message.len() / 128 * 128;
-    let r = close(q, &message[from..], 0x80, 8 * (message.len() as u64));
-    block64::write(r, (size / 8) as usize, out);
-    Ok(length)
+    hash::digest::<u64>(size, message, out)
 }

@@ -1,47 +1,14 @@
-use native.Mathlib.Omega.{arith}
-use borrow.Author.Rules.{rules}
+use Rattle.std.proofs.Common.{ap, ◌∙◌}
 use Rattle.digest.specs.Kind.{wide_kind}
-use Rattle.digest.proofs.Answers.{wide_sized}
-use Rattle.digest.proofs.Cases.{Feeding, feed_refused, feed_goes}
-use Rattle.wide.specs.Outcomes.{hash_of}
-use Rattle.wide.proofs.Whole.{whole_fed}
-use mathlib.Core.Path.{refl}
-use Rattle.answer.proofs.Results.{erred, went}
+use Rattle.digest.specs.State.{feed_answer, feed_state}
+use Rattle.wide.specs.Outcomes.{wide_of, fed}
 use Rattle.wide.proofs.feed.Goals as goal
 
-pub returns-then-is_err : goal.returns-then-is_err
-returns-then-is_err c =
-    let a = c.args in
-    whole_fed a.hash a.bytes.now
-    (feed_refused wide_sized (hash_of a.hash) a.bytes.now c.feeding-answer.ensures refl (erred _ c.is_err.ensures.value c.if-is_err.true))
-
-pub slice_bounds-w-end : goal.slice_bounds-w-end
-slice_bounds-w-end c =
-    let goes : Feeding wide_kind (hash_of c.args.hash) c.args.bytes.now =
-    feed_goes wide_sized (hash_of c.args.hash) c.args.bytes.now c.feeding-answer.ensures refl (search rules) (went _ c.is_err.ensures.value c.if-is_err.false) in
-    goes.waits.stands
-
-pub slice_bounds-absorb-end : goal.slice_bounds-absorb-end
-slice_bounds-absorb-end c =
-    let goes : Feeding wide_kind (hash_of c.args.hash) c.args.bytes.now =
-    feed_goes wide_sized (hash_of c.args.hash) c.args.bytes.now c.feeding-answer.ensures refl (search rules) (went _ c.is_err.ensures.value c.if-is_err.false) in
-    goes.waits.count
-
-pub absorb-t-requires : goal.absorb-t-requires
-absorb-t-requires c =
-    let goes : Feeding wide_kind (hash_of c.args.hash) c.args.bytes.now =
-    feed_goes wide_sized (hash_of c.args.hash) c.args.bytes.now c.feeding-answer.ensures refl (search rules) (went _ c.is_err.ensures.value c.if-is_err.false) in
-    goes.waits.short
-
-pub overflow_add-sum : goal.overflow_add-sum
-overflow_add-sum c =
-    let goes : Feeding wide_kind (hash_of c.args.hash) c.args.bytes.now =
-    feed_goes wide_sized (hash_of c.args.hash) c.args.bytes.now c.feeding-answer.ensures refl (search rules) (went _ c.is_err.ensures.value c.if-is_err.false) in
-    omega (arith, goes.total)
-
 pub returns : goal.returns
+unfolding fed
 returns c =
-    let goes : Feeding wide_kind (hash_of c.args.hash) c.args.bytes.now =
-    feed_goes wide_sized (hash_of c.args.hash) c.args.bytes.now c.feeding-answer.ensures refl (search rules) (went _ c.is_err.ensures.value c.if-is_err.false) in
-    let a = c.args in
-    whole_fed a.hash a.bytes.now (c.feeding-answer.ensures, goes.fed c.absorb-t.ensures)
+    let s = c.args.bytes.now in
+    let e = c.feed-r.ensures in
+    let answer = e.0 ∙ ap (λ h. feed_answer wide_kind h s) c.from.ensures in
+    let state = c.from-2.ensures ∙ ap wide_of (e.1 ∙ ap (λ h. feed_state wide_kind h s) c.from.ensures) in
+    λ i. record { answer = answer i; state = state i }

@@ -4,9 +4,10 @@ use native.Mathlib.Nat.{div-mul-le_self}
 use lib.ListN.{length}
 use Rattle.digest.specs.Blocks.{filled}
 use Rattle.memory.proofs.Lists.{to_end}
-use Rattle.narrow.proofs.straight.Goals as goal
+use Rattle.hash.proofs.straight.Goals as goal
 
 pub returns : goal.returns
-returns c =
+returns g c =
+    let B = g.row.BLOCK in
     let s = c.args.s.now in
-    (c.steps-pipe.ensures, c.hold-waiting.ensures ∙ ap (filled 64) (append-nil _ ∙ to_end s _ (div-mul-le_self (length s) 64)))
+    (rw c.requires c.steps-pipe.ensures, c.hold-waiting.ensures ∙ ap (filled B) (append-nil _ ∙ to_end s _ (div-mul-le_self (length s) B)))
