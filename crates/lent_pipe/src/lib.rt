@@ -17,10 +17,10 @@ pub fn forward(width: u32, pipe: &mut [u8], block: &[u8]) -> Answer
         return r;
     }
     if width == 32 {
-        block32::step_in(pipe, block);
+        block::step_in::<u32>(pipe, block);
         return r;
     }
-    block64::step_in(pipe, block);
+    block::step_in::<u64>(pipe, block);
     r
 }
 
@@ -34,9 +34,9 @@ pub fn backward(width: u32, pipe: &mut [u8], block: &[u8]) -> Answer
         return r;
     }
     if width == 32 {
-        block32::step_back_in(pipe, block);
+        block::step_back_in::<u32>(pipe, block);
         return r;
     }
-    block64::step_back_in(pipe, block);
+    block::step_back_in::<u64>(pipe, block);
     r
 }

@@ -1,6 +1,7 @@
 use Rattle.invertible.specs.RoundTrip.{Forward}
 use Rattle.lent_pipe.proofs.Outcome.{refused, passed}
 use mathlib.Core.Path.{ap}
+use borrow.Author.Rules.{rules}
 use mathlib.Core.Bool.{not}
 use Rattle.lent_pipe.proofs.forward.Goals as goal
 
@@ -17,13 +18,13 @@ pub step_in-requires : goal.step_in-requires
 step_in-requires c =
     let a = c.args in
     let p = passed a.width a.block.now a.pipe.now Forward _ c.answer_for-r.ensures c.is_done.ensures (ap not c.if-not-is_done.false) in
-    p.fits 32 c.if-width-eq32.true
+    (search rules, p.fits 32 c.if-width-eq32.true)
 
 pub returns-then-width-eq32 : goal.returns-then-width-eq32
 returns-then-width-eq32 c =
     let a = c.args in
     let p = passed a.width a.block.now a.pipe.now Forward _ c.answer_for-r.ensures c.is_done.ensures (ap not c.if-not-is_done.false) in
-    let both = p.written 32 c.if-width-eq32.true _ c.step_in.ensures in
+    let both = p.written 32 c.if-width-eq32.true _ c.step_in.ensures.moved in
     record {
       value = both.0;
       pipe_after = both.1;
@@ -33,13 +34,13 @@ pub step_in-requires-2 : goal.step_in-requires-2
 step_in-requires-2 c =
     let a = c.args in
     let p = passed a.width a.block.now a.pipe.now Forward _ c.answer_for-r.ensures c.is_done.ensures (ap not c.if-not-is_done.false) in
-    p.fits 64 (p.other c.if-width-eq32.false)
+    (search rules, p.fits 64 (p.other c.if-width-eq32.false))
 
 pub returns : goal.returns
 returns c =
     let a = c.args in
     let p = passed a.width a.block.now a.pipe.now Forward _ c.answer_for-r.ensures c.is_done.ensures (ap not c.if-not-is_done.false) in
-    let both = p.written 64 (p.other c.if-width-eq32.false) _ c.step_in-2.ensures in
+    let both = p.written 64 (p.other c.if-width-eq32.false) _ c.step_in-2.ensures.moved in
     record {
       value = both.0;
       pipe_after = both.1;
