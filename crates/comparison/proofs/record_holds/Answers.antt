@@ -1,14 +1,8 @@
 use mathlib.Core.Path.{refl}
 use native.Mathlib.Omega.{arith}
 use Rattle.quasigroup.proofs.Widths.{bytewise}
-use Rattle.comparison.proofs.Chunks.{begin, next, holds_all}
+use Rattle.comparison.proofs.Chunks.{next, holds_all}
 use Rattle.comparison.proofs.record_holds.Goals as goal
-
-pub loop-k-init : goal.loop-k-init
-loop-k-init c =
-    let a = c.args in
-    begin a.width (bytewise a.width c.requires.0) a.records.now (λ i. omega (arith, c.type_inv.records i)) a.from a.state.now
-    (λ i. omega (arith, c.type_inv.state i)) c.requires.2 c.requires.1
 
 pub loop-k-preserved : goal.loop-k-preserved
 loop-k-preserved c =
