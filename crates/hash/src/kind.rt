@@ -5,7 +5,7 @@ ghost use Rattle.digest.specs.Kind as digest;
 ghost use Rattle.digest.specs.Pipe.{Pipe, written};
 ghost use Rattle.digest.specs.Step.{step};
 ghost use Rattle.digest.proofs.Answers.{Sized, narrow_sized, wide_sized};
-ghost use Rattle.hash.specs.Fits.{PipeFits, AbsorbedFits};
+ghost use Rattle.hash.specs.Fits.{PipeFits, AbsorbedFits, HashFits, OutcomeFits};
 
 use lent_words::LentWord;
 use tables::Width;
@@ -39,10 +39,14 @@ pub trait Kind: Width + LentWord {
 
     ghost pipe_bytes: { (p : Pipe) → kind.written p ≡ written Self.BYTES p };
 
-    // A pipe fits in memory, by itself and with a block's bytes, so that functions may make one.
+    // A pipe fits in memory, by itself and in a hash and what holds one, so that functions may make them.
     ghost pipe_fits: { PipeFits Self.row };
 
     ghost absorbed_fits: { AbsorbedFits Self.row (16 * Self.BYTES) };
+
+    ghost hash_fits: { HashFits Self.row (16 * Self.BYTES) };
+
+    ghost outcome_fits: { OutcomeFits Self.row (16 * Self.BYTES) };
 }
 
 // The narrow kind, of 224 and 256 bits.
@@ -79,6 +83,10 @@ impl Kind for u32 {
     ghost pipe_fits = { lit< tt };
 
     ghost absorbed_fits = { lit< tt };
+
+    ghost hash_fits = { lit< tt };
+
+    ghost outcome_fits = { lit< tt };
 }
 
 // The wide kind, of 384 and 512 bits.
@@ -115,4 +123,8 @@ impl Kind for u64 {
     ghost pipe_fits = { lit< tt };
 
     ghost absorbed_fits = { lit< tt };
+
+    ghost hash_fits = { lit< tt };
+
+    ghost outcome_fits = { lit< tt };
 }

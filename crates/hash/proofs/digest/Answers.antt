@@ -1,9 +1,18 @@
-use Rattle.std.proofs.Common.{ap, refl, arith, length, not}
+use Rattle.std.proofs.Common.{ap, refl, sym, ◌∙◌, arith, length, not}
 use Rattle.answer.specs.Refuse.{is_done}
+use Rattle.answer.proofs.Results.{handed_on}
 use Rattle.digest.specs.Refusals.{digesting}
 use Rattle.digest.proofs.Cases.{digest_goes}
 use Rattle.hash.proofs.Numbers.{by_sizes}
 use Rattle.hash.proofs.digest.Goals as goal
+
+pub returns-in_err-length-clause-value : goal.returns-in_err-length-clause-value
+returns-in_err-length-clause-value g c =
+    let l = g.met.U.Kind in
+    let a = c.args in
+    let e = by_sizes g.U.Kind.kind l.small l.large c.SMALL.ensures c.LARGE.ensures
+    (λ m n. digesting m n a.size (length a.message.now) (length a.out.now)) c.digesting.ensures in
+    handed_on _ c.from_residual.ensures ∙ sym c.in_err-length.was ∙ e
 
 pub start-p-requires : goal.start-p-requires
 start-p-requires g c =

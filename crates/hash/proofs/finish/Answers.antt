@@ -1,9 +1,18 @@
 use Rattle.std.proofs.Common.{ap, refl, sym, ◌∙◌, arith, rules, length, not}
 use Rattle.answer.specs.Refuse.{is_done}
+use Rattle.answer.proofs.Results.{handed_on}
 use Rattle.digest.specs.Refusals.{finishing_bits}
 use Rattle.digest.proofs.Cases.{finish_goes}
 use Rattle.hash.proofs.Numbers.{by_sizes}
 use Rattle.hash.proofs.finish.Goals as goal
+
+pub returns-in_err-length-clause-value : goal.returns-in_err-length-clause-value
+returns-in_err-length-clause-value g c =
+    let l = g.met.U.Kind in
+    let h = c.hash.inside in
+    let e = by_sizes g.U.Kind.kind l.small l.large c.SMALL.ensures c.LARGE.ensures
+    (λ m n. finishing_bits m n h.size h.total c.args.count (length c.args.out.now)) c.finishing.ensures in
+    rw (← c.hash.view_is) (handed_on _ c.from_residual.ensures ∙ sym c.in_err-length.was ∙ e)
 
 pub marked-mark-requires : goal.marked-mark-requires
 marked-mark-requires g c =
