@@ -1,2 +1,3 @@
-pub mod Same
+pub mod Bits
+pub mod Chunks
 pub mod Search

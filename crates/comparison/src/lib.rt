@@ -1,8 +1,9 @@
 // A record held against the state that it should be, both as lent bytes.
 #![tactic(auto)]
 
-ghost use Rattle.std.specs.Prelude.{◌≡◌, true, false, ◌+◌, ◌/◌, ◌≤◌, length};
-ghost use Rattle.memory.specs.Bytes.{word_at};
+ghost use Rattle.std.specs.Prelude.{◌≡◌, true, false, ◌+◌, ◌/◌, ◌≤◌, eqb, length};
+ghost use Rattle.std.specs.Int.Bits.{bit_xor};
+ghost use Rattle.memory.specs.Bytes.{word_at, words_at};
 ghost use Rattle.quasigroup.specs.Tables.{known_width};
 ghost use Rattle.shuffle.specs.Shuffle.{record_length};
 ghost use Rattle.replay.specs.Difference.{record_at, agreeing, same_words, difference};
@@ -10,13 +11,42 @@ ghost use Rattle.replay.specs.Difference.{record_at, agreeing, same_words, diffe
 use lent_words::LentWord;
 use replay::Finding;
 
-// Whether the record at `from` holds: its bytes are those of the state.
+// The bits in which the words at `at` differ.
+fn word_difference(x: &[u8], y: &[u8], at: usize) -> u64
+    requires { (at + 8 ≤ length x.now) × (at + 8 ≤ length y.now) }
+    ensures { result ≡ bit_xor (word_at 8 x.now at) (word_at 8 y.now at) }
+{
+    u64::load(x, at) ^ u64::load(y, at)
+}
+
+// The bits in which the first eight words differ, those of all pairs together: none where each pair is the same.
+fn differing_bits(x: &[u8], y: &[u8]) -> u64
+    requires { (64 ≤ length x.now) × (64 ≤ length y.now) }
+    ensures { eqb result 0 ≡ eqb (agreeing (words_at 8 8 x.now 0) (words_at 8 8 y.now 0)) 8 }
+{
+    word_difference(x, y, 0)
+        | (word_difference(x, y, 8)
+            | (word_difference(x, y, 16)
+                | (word_difference(x, y, 24)
+                    | (word_difference(x, y, 32)
+                        | (word_difference(x, y, 40)
+                            | (word_difference(x, y, 48) | word_difference(x, y, 56)))))))
+}
+
+// Whether the record at `from` holds: its bytes are those of the state. They are compared 64 at a time, at either width, and tested once, so that the
+// compiler takes several words together.
 pub fn record_holds(width: u32, state: &[u8], records: &[u8], from: usize) -> bool
     requires { (known_width width ≡ true) × (length state.now ≡ record_length width) × (from + record_length width ≤ length records.now) }
     ensures { result ≡ same_words (record_at width records.now from) (record_at width state.now 0) }
 {
-    let end = from + state.len();
-    records[from..end] == state[..]
+    let chunks = width as usize / 8;
+    let mut bits: u64 = 0;
+    for k in 0..chunks {
+        let at = 64 * k;
+        let there = from + at;
+        bits |= differing_bits(&records[there..], &state[at..]);
+    }
+    bits == 0
 }
 
 // The word whose bytes stand at `at`.

@@ -74,7 +74,11 @@ module _ (B : ℕ) (pos : 0 < B) where
         rw n (rw (zero-mul B, take_all B s l))
 
     -- a block and what is behind it
-    pub compressed_front : (m t : List ℕ) → length m ≡ B → compressed B f (f p m) t ≡ compressed B f p (m ++ t)
+    compressed_front : (m t : List ℕ) → length m ≡ B → compressed B f (f p m) t ≡ compressed B f p (m ++ t)
     compressed_front m t e =
         ap (λ (q : P). compressed B f q t) (sym (compressed_one m e))
         ∙ ap (λ (r : List ℕ). compressed B f (compressed B f p m) (r ++ t)) (sym (rest_one m e)) ∙ compressed_twice m t
+
+    -- a turn of the loop over blocks: s is the block m and then t
+    pub compressed_turn : {q : P} (s m t : List ℕ) → s ≡ m ++ t → length m ≡ B → q ≡ f p m → compressed B f q t ≡ compressed B f p s
+    compressed_turn s m t e l h = ap (λ (q : P). compressed B f q t) h ∙ compressed_front m t l ∙ ap (compressed B f p) (sym e)

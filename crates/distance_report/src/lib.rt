@@ -31,10 +31,8 @@ fn push_lines(out: &mut [u8], counts: &[u16]) -> usize
     ensures upper_bound { result ≤ 43008 }
 {
     let mut next = 0;
-    let mut k = 0;
-    while k < counts.len() {
+    for k in 0..counts.len() {
         next = push_line(out, next, k + 1, counts[k]);
-        k += 1;
     }
     next
 }

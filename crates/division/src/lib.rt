@@ -37,14 +37,8 @@ fn unrotated<U: Width>(z: [Word<U>; 8], k: Word<U>, p: [usize; 5], r: u32) -> Wo
     requires amount { r < U.width }
     ensures { result ≡ minus U.tables.bits (rotl U.tables.bits (U.tables.bits - r) (xor (pick p z))) k }
 {
-    let a = p[0];
-    let b = p[1];
-    let c = p[2];
-    let d = p[3];
-    let e = p[4];
-    (z[a] ^ (z[b] ^ (z[c] ^ (z[d] ^ z[e]))))
-        .rotate_right(r)
-        .wrapping_sub(k)
+    let xor = z[p[0]] ^ (z[p[1]] ^ (z[p[2]] ^ (z[p[3]] ^ z[p[4]])));
+    xor.rotate_right(r).wrapping_sub(k)
 }
 
 // `u` and the two words of `s` with the numbers in `p`, less the five with the numbers in `n`.
@@ -53,16 +47,16 @@ fn unsummed<U: Width>(u: Word<U>, s: [Word<U>; 8], p: [usize; 2], n: [usize; 5])
     requires taken_away { All (λ i. i < 8) n }
     ensures { result ≡ balance U.tables.bits u (pick p s) (pick n s) }
 {
-    let a = n[0];
-    let b = n[1];
-    let c = n[2];
-    let d = n[3];
-    let e = n[4];
-    let f = p[0];
-    let g = p[1];
-    let less = u.wrapping_sub(s[e]).wrapping_sub(s[d]).wrapping_sub(s[c]);
-    let rest = less.wrapping_sub(s[b]).wrapping_sub(s[a]);
-    rest.wrapping_add(s[g]).wrapping_add(s[f])
+    let a = s[n[0]];
+    let b = s[n[1]];
+    let c = s[n[2]];
+    let d = s[n[3]];
+    let e = s[n[4]];
+    let f = s[p[0]];
+    let g = s[p[1]];
+    let less = u.wrapping_sub(e).wrapping_sub(d).wrapping_sub(c);
+    let rest = less.wrapping_sub(b).wrapping_sub(a);
+    rest.wrapping_add(g).wrapping_add(f)
 }
 
 // `u` less the three words of `s` with the numbers in `n`.
@@ -70,10 +64,9 @@ fn less_three<U: Width>(u: Word<U>, s: [Word<U>; 8], n: [usize; 3]) -> Word<U>
     requires { All (λ i. i < 8) n }
     ensures { result ≡ balance U.tables.bits u [] (pick n s) }
 {
-    let a = n[0];
-    let b = n[1];
-    let c = n[2];
-    u.wrapping_sub(s[c]).wrapping_sub(s[b]).wrapping_sub(s[a])
+    u.wrapping_sub(s[n[2]])
+        .wrapping_sub(s[n[1]])
+        .wrapping_sub(s[n[0]])
 }
 
 // Two fifths of the sum of all words.

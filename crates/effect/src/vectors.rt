@@ -9,7 +9,7 @@ ghost use Rattle.sheet.specs.Effect.{at as place};
 ghost use Rattle.sheet.specs.Run.{vectors_in};
 ghost use Rattle.sheet.specs.Sound.{SoundCommand};
 
-use division::{left_undone, right_undone, separated};
+use division::{left, right};
 use half::{left_half, right_half};
 use lent_words::{LentWord, load_vector, store_vector};
 use product::{joined, reversed};
@@ -65,7 +65,7 @@ fn multiply_by<U: Width + LentWord>(vectors: &mut [u8], d: usize, sheet: &[u8], 
     put(vectors, d, joined(left_half(x), right_half(y)));
 }
 
-// The vector at place `d` is divided by the one at place `s` from the left. Divisions, too, are made of their parts here and not called.
+// The vector at place `d` is divided by the one at place `s` from the left.
 fn divide_left<U: Width + LentWord>(vectors: &mut [u8], d: usize, s: usize)
     requires { (length vectors.old ≡ place_count * U.width) × (d < place_count) × (s < place_count) }
     ensures { let v = vectors_in U.width vectors.old in
@@ -73,8 +73,7 @@ fn divide_left<U: Width + LentWord>(vectors: &mut [u8], d: usize, s: usize)
 {
     let a = get::<U>(vectors, s);
     let b = get(vectors, d);
-    let z = separated(b, left_half(a));
-    put(vectors, d, right_undone(z));
+    put(vectors, d, left::divide(a, b));
 }
 
 // The vector at place `d` is divided by the one at place `s` from the right.
@@ -85,8 +84,7 @@ fn divide_right<U: Width + LentWord>(vectors: &mut [u8], d: usize, s: usize)
 {
     let b = get::<U>(vectors, d);
     let a = get(vectors, s);
-    let z = separated(b, right_half(a));
-    put(vectors, d, left_undone(z));
+    put(vectors, d, right::divide(b, a));
 }
 
 // The vector at place `d` is divided by the vector at offset `k` of the sheet from the left.
@@ -97,8 +95,7 @@ fn divide_by<U: Width + LentWord>(vectors: &mut [u8], d: usize, sheet: &[u8], k:
 {
     let a = vector_at::<U>(sheet, k);
     let b = get(vectors, d);
-    let z = separated(b, left_half(a));
-    put(vectors, d, right_undone(z));
+    put(vectors, d, left::divide(a, b));
 }
 
 // The vectors at places `d` and `s` change over.

@@ -16,16 +16,13 @@ fn rotated_sum<U: Width>(v: [Word<U>; 8], k: Word<U>, p: [usize; 5], r: u32) -> 
     requires amount { r < U.width }
     ensures { result ≡ rotl U.tables.bits r (sum U.tables.bits k (pick p v)) }
 {
-    let a = p[0];
-    let b = p[1];
-    let c = p[2];
-    let d = p[3];
-    let e = p[4];
-    let last = v[e].wrapping_add(k);
-    let two = v[d].wrapping_add(last);
-    let three = v[c].wrapping_add(two);
-    let four = v[b].wrapping_add(three);
-    v[a].wrapping_add(four).rotate_left(r)
+    let a = v[p[0]];
+    let b = v[p[1]];
+    let c = v[p[2]];
+    let d = v[p[3]];
+    let e = v[p[4]];
+    let rest = b.wrapping_add(c.wrapping_add(d.wrapping_add(e.wrapping_add(k))));
+    a.wrapping_add(rest).rotate_left(r)
 }
 
 // The XOR of the three words of `t` with the numbers in `p`.
@@ -33,10 +30,7 @@ fn combination<U: Width>(t: [Word<U>; 8], p: [usize; 3]) -> Word<U>
     requires { All (λ i. i < 8) p }
     ensures { result ≡ xor (pick p t) }
 {
-    let a = p[0];
-    let b = p[1];
-    let c = p[2];
-    t[a] ^ (t[b] ^ t[c])
+    t[p[0]] ^ (t[p[1]] ^ t[p[2]])
 }
 
 // The vector as it is, read word by word: a copy of the array would join two words into one load, which waits for the stores before it.

@@ -14,9 +14,9 @@ pub fn forward(width: u32, pipe: &mut [u8], block: &[u8]) -> Answer
 {
     let written = operands::step::answer_for(width, pipe, block)?;
     if width == 32 {
-        block32::step_in(pipe, block);
+        block::step_in::<u32>(pipe, block);
     } else {
-        block64::step_in(pipe, block);
+        block::step_in::<u64>(pipe, block);
     }
     Ok(written)
 }
@@ -28,9 +28,9 @@ pub fn backward(width: u32, pipe: &mut [u8], block: &[u8]) -> Answer
 {
     let written = operands::step::answer_for(width, pipe, block)?;
     if width == 32 {
-        block32::step_back_in(pipe, block);
+        block::step_back_in::<u32>(pipe, block);
     } else {
-        block64::step_back_in(pipe, block);
+        block::step_back_in::<u64>(pipe, block);
     }
     Ok(written)
 }

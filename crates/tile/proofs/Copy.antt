@@ -136,18 +136,6 @@ module _ {k q : ℕ} {s : List ℕ} {i d : ℕ} {old : List ℕ} {o e : ℕ} whe
     pub rows_size : length new ≡ length old
     rows_size = ap length c.copied ∙ rows_length k s i d old o e n
 
-    pub column_to : n < q → (p : ℕ) → p ≡ o + n → Inside k 1 p e (length new)
-    column_to h p x j g = omega (arith, rows_size, c.to j g)
-
-    pub column_from : n < q → (p : ℕ) → p ≡ i + n → Inside k 1 p d (length s)
-    column_from h p x j g = omega (arith, c.from j g)
-
-    pub place_to : n < q → o + n < length old
-    place_to h = omega (arith, c.to 0 c.some, zero-mul e)
-
-    pub place_from : n < q → i + n < length s
-    place_from h = omega (arith, c.from 0 c.some, zero-mul d)
-
     pub rows_next : n < q → (a b : ℕ) → a ≡ i + n → b ≡ o + n → (last : List ℕ) → last ≡ strided_copy k s a d new b e
         → RowsCopying k q s i d old o e (n + 1) last
     unfolding rows_copy
@@ -162,9 +150,6 @@ module _ {k q : ℕ} {s : List ℕ} {i d : ℕ} {old : List ℕ} {o e : ℕ} whe
               ∙ ap (λ (l : List ℕ). strided_copy k s (i + n) d l (o + n) e) c.copied
               ∙ ap (λ (m : ℕ). rows_copy k m s i d old o e) (sym (add-one n));
         }
-
-    pub rows_end : q ≤ n → new ≡ rows_copy k q s i d old o e
-    rows_end h = let x : n ≡ q = omega (arith, c.bound) in c.copied ∙ ap (λ (m : ℕ). rows_copy k m s i d old o e) x
 
 -- ---- a tile of k rows of q bytes each, side by side
 
@@ -188,7 +173,3 @@ Filling k q s i d n r = RowsCopying k q s i d (zeros 128) 0 q n r
 module _ {k q : ℕ} {s : List ℕ} {i d : ℕ} where
   pub fill_begin : k * q ≡ 128 → Inside k q i d (length s) → Filling k q s i d 0 (zeros 128)
   fill_begin h g = rows_begin (some_rows k q h) (subst (Inside k q 0 q) (sym (zeros_length 128)) (in_tile k q h)) g
-
-  module _ {n : ℕ} {r : List ℕ} (c : Filling k q s i d n r) where
-    pub fill_size : length r ≡ 128
-    fill_size = rows_size c ∙ zeros_length 128

@@ -1,8 +1,5 @@
-use Rattle.comparison.proofs.Search.{none_yet, one_more, differs, all_agree}
+use Rattle.comparison.proofs.Search.{one_more, differs, all_agree}
 use Rattle.comparison.proofs.agreeing.Goals as goal
-
-pub loop-i-init : goal.loop-i-init
-loop-i-init c = let a = c.args in none_yet a.width a.records.now a.from a.state.now
 
 pub returns-then-word_at : goal.returns-then-word_at
 returns-then-word_at c =

@@ -1,18 +1,20 @@
-use mathlib.Core.Path.{◌≡◌, ap}
-use Prim.Native.Nat.{ℕ, ◌+◌, ◌-◌}
+use mathlib.Core.Path.{refl}
 use native.Mathlib.Omega.{arith}
-use lib.ListN.{length, take, drop}
-use Rattle.std.proofs.lemmas.Bool.Decides.{Decides-eqb}
-use Rattle.std.proofs.lemmas.Slice.Eq.{slice_eq-Decides}
 use Rattle.quasigroup.proofs.Widths.{bytewise}
-use Rattle.shuffle.specs.Shuffle.{record_length}
-use Rattle.comparison.proofs.Same.{holds}
+use Rattle.comparison.proofs.Chunks.{next, holds_all}
 use Rattle.comparison.proofs.record_holds.Goals as goal
+
+pub loop-k-preserved : goal.loop-k-preserved
+loop-k-preserved c =
+    let a = c.args in
+    let w = bytewise a.width c.requires.0 in
+    next a.width w a.records.now (λ i. omega (arith, c.type_inv.records i)) a.from a.state.now
+    (λ i. omega (arith, c.type_inv.state i)) c.requires.2 c.requires.1 c.loop-k.bits c.loop-k.k _ refl c.loop-k.invariant
+    c.loop-k-test.true refl refl c.differing_bits-bits.result c.differing_bits-bits.ensures
 
 pub returns : goal.returns
 returns c =
     let a = c.args in
-    let n : a.from + length a.state.now - a.from ≡ record_length a.width = omega (arith, c.requires.1) in
-    holds a.width (bytewise a.width c.requires.0) a.records.now (λ i. omega (arith, c.type_inv.records i)) a.from a.state.now
-    (λ i. omega (arith, c.type_inv.state i)) c.requires.2 c.requires.1 c.eq.result _ (ap (λ (m : ℕ). take m (drop a.from a.records.now)) n)
-    (slice_eq-Decides Decides-eqb _ _ _ c.eq.ensures)
+    holds_all a.width (bytewise a.width c.requires.0) a.records.now (λ i. omega (arith, c.type_inv.records i)) a.from a.state.now
+    (λ i. omega (arith, c.type_inv.state i)) c.requires.2 c.requires.1 c.loop-k.bits c.loop-k.k c.loop-k.invariant
+    c.loop-k.auto.k-end c.loop-k-test.false

@@ -6,22 +6,8 @@ use Rattle.distance_report.specs.Report.{lines}
 use Rattle.distance_report.proofs.Lines.{lines_more, lines_end}
 use Rattle.distance_report.proofs.push_lines.Goals as goal
 
-pub loop-k-init : goal.loop-k-init
-loop-k-init c = (c.requires, omega arith, omega arith, refl, none_yet c.args.out.now 0 (lines 1 c.args.counts.now))
-
 pub loop-k-preserved : goal.loop-k-preserved
 loop-k-preserved c =
     let i = c.loop-k.invariant in
     let counts = c.args.counts.now in
     (i.0, omega arith, omega (arith, c.push_line-next.ensures.upper_bound), search rules, lines_more counts c.loop-k.k i.4 c.push_line-next.new.out c.push_line-next.result (omega arith) c.push_line-next.ensures.pushed)
-
-pub shape_of-out : goal.shape_of-out
-shape_of-out c = c.loop-k.invariant.3
-
-pub returns : goal.returns
-returns c =
-    let i = c.loop-k.invariant in
-    record {
-      pushed = lines_end c.args.counts.now c.loop-k.k i.4 c.loop-k-test.false;
-      upper_bound = omega arith;
-    }

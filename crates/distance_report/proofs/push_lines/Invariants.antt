@@ -8,6 +8,3 @@ use Rattle.distance_report.proofs.push_lines.Given as goal
 
 abbrev pub invariant-loop-k : goal.invariant-loop-k
 invariant-loop-k l = (length l.counts ≤ 1024) × (l.k ≤ length l.counts) × (l.next ≤ 42 * l.k) × (length l.out ≡ length l.initial.out) × Partly l.initial.out 0 (lines 1 l.counts) l.out l.next (rest l.counts l.k)
-
-abbrev pub decreases-loop-k : goal.decreases-loop-k
-decreases-loop-k l = length l.counts - l.k

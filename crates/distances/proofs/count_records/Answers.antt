@@ -1,19 +1,13 @@
 use mathlib.Core.Path.{refl}
 use borrow.Author.Rules.{rules}
-use Rattle.hamming.proofs.Counts.{begin, next, end}
+use Rattle.hamming.proofs.Counts.{next, end}
 use Rattle.distances.proofs.count_records.Goals as goal
-
-pub loop-k-init : goal.loop-k-init
-loop-k-init c = (c.requires.0, refl, c.requires.1, begin c.args.records.now c.args.counts.now)
 
 pub loop-k-preserved : goal.loop-k-preserved
 loop-k-preserved c =
     let a = c.args in
     let i = c.loop-k.invariant in
     (i.0, refl, i.2, next a.records.now a.counts.now c.loop-k.k c.loop-k.counts c.loop-k.sum (search rules) c.record_distance-count.ensures.result_value i.3)
-
-pub shape_of-counts : goal.shape_of-counts
-shape_of-counts c = c.loop-k.invariant.3.same
 
 pub returns : goal.returns
 returns c =

@@ -19,6 +19,9 @@ returns g c =
     c.unrotated-8.ensures
     ∙ unfilled t.bits t.left_constant t.left_amounts z
 
+pub unrotated-requires-5 : goal.unrotated-requires-5
+unrotated-requires-5 g c = (search rules, (search rules, c.left_amounts-r.ensures.below 4))
+
 pub unrotated-requires-6 : goal.unrotated-requires-6
 unrotated-requires-6 g c = (search rules, (search rules, c.left_amounts-r.ensures.below 5))
 

@@ -17,6 +17,9 @@ returns g c =
     c.unrotated-7.ensures
     c.unrotated-8.ensures
 
+pub unrotated-requires-5 : goal.unrotated-requires-5
+unrotated-requires-5 g c = (search rules, (search rules, c.right_amounts-r.ensures.below 4))
+
 pub unrotated-requires-6 : goal.unrotated-requires-6
 unrotated-requires-6 g c = (search rules, (search rules, c.right_amounts-r.ensures.below 5))
 

@@ -13,5 +13,5 @@ returns g c =
     (c.rotate_right.ensures
     ∙ ap (rotl w (w - a.r))
     (five_combined a.z a.p (search rules) c.requires.numbers
-    c.index-z-a.result c.index-z-b.result c.index-z-c.result c.index-z-d.result c.index-z-e.result (search rules)
-    c.bitxor.ensures c.bitxor-2.ensures c.bitxor-3.ensures c.bitxor-4.ensures)))
+    c.index-z-p.result c.index-z-p-2.result c.index-z-p-3.result c.index-z-p-4.result c.index-z-p-5.result (search rules)
+    c.bitxor.ensures c.bitxor-2.ensures c.bitxor-3.ensures c.bitxor-xor.ensures)))

@@ -4,36 +4,13 @@ use Prim.Native.Nat.{ℕ}
 use borrow.Author.Rules.{rules}
 use native.Mathlib.Omega.{arith}
 use Rattle.shuffle.specs.Transposed.{transposed}
-use Rattle.record.proofs.Moved.{none_moved, some_words, tile_inside, tile_ends}
-use Rattle.record.proofs.Moved.{rows_inside, row_inside, restore_more, restore_all}
+use Rattle.record.proofs.Moved.{row_inside, restore_more, restore_all}
 use Rattle.record.proofs.restore.Goals as goal
-
-pub loop-g-init : goal.loop-g-init
-loop-g-init c = none_moved c.requires.tiled.0 c.requires.s_len.0 c.requires.s_len.1
-
-pub load-x-requires : goal.load-x-requires
-load-x-requires c =
-    let l = c.loop-g.invariant in
-    (l.tile, rows_inside l c.loop-g-test.true _ (omega (arith, l.given)))
-
-pub overflow_mul-k : goal.overflow_mul-k
-overflow_mul-k c =
-    let l = c.loop-g.invariant in
-    omega (arith, tile_ends l c.loop-g-test.true, l.given)
-
-pub transpose-requires : goal.transpose-requires
-transpose-requires c = c.requires.tiled.1
 
 pub store-requires : goal.store-requires
 store-requires c =
     let l = c.loop-g.invariant in
     (refl, row_inside l c.loop-g-test.true _ (omega (arith, l.size, l.room)))
-
-pub overflow_step-g : goal.overflow_step-g
-overflow_step-g c = omega (arith, tile_inside c.loop-g.invariant c.loop-g-test.true)
-
-pub loop-g-smaller : goal.loop-g-smaller
-loop-g-smaller c = omega (arith, some_words c.loop-g.invariant, c.loop-g-test.true)
 
 pub loop-g-preserved : goal.loop-g-preserved
 loop-g-preserved c =
@@ -43,9 +20,6 @@ loop-g-preserved c =
     let e : c.transpose.result ≡ transposed a.k a.q x =
     c.transpose.ensures ∙ ap₂ {C = List ℕ} (λ m n. transposed m n x) (sym p.2) (sym p.3) in
     restore_more c.loop-g.invariant c.loop-g-test.true x c.transpose.result _ c.load-x.ensures e c.store.ensures
-
-pub shape_of-out : goal.shape_of-out
-shape_of-out c = c.loop-g.invariant.size
 
 pub returns : goal.returns
 returns c = restore_all (search rules) c.loop-g.invariant

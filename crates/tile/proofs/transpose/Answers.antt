@@ -1,9 +1,8 @@
-use mathlib.Core.Path.{◌≡◌, ap, ◌∙◌}
-use Prim.Native.Nat.{ℕ}
+use mathlib.Core.Path.{ap, ◌∙◌}
 use borrow.Author.Rules.{rules}
 use native.Mathlib.Omega.{arith}
 use Rattle.shuffle.specs.Transposed.{transposed}
-use Rattle.tile.proofs.Interleaved.{repeated, repeated_none, repeated_more}
+use Rattle.tile.proofs.Interleaved.{repeated_none, repeated_more}
 use Rattle.tile.proofs.transpose.Goals as goal
 
 pub loop-init : goal.loop-init
@@ -15,8 +14,3 @@ loop-preserved c = (
   c.loop.invariant.1,
   c.interleave-next.ensures ∙ ap (transposed 2 64) c.loop.invariant.2 ∙ repeated_more c.loop.counter c.args.x (omega (arith, c.loop.invariant.1, c.loop-test.true)),
 )
-
-pub returns : goal.returns
-returns c =
-    let e : c.loop.counter ≡ c.args.times = omega (arith, c.loop.invariant.0, c.loop-test.false) in
-    c.loop.invariant.2 ∙ ap (λ (t : ℕ). repeated t c.args.x) e
