@@ -7,7 +7,7 @@ ghost use Rattle.digest.specs.OneCall.{digest_answer, digest_out, one_call_answe
 use answer::Answer;
 use hash::Kind;
 
-// The same for the sizes of one kind.
+// What the one call answers and writes for `first` and then `second`, for the sizes of one kind.
 fn digest_of_kind<U: Kind, const BLOCK: usize>(
     size: u32,
     first: &[u8],
@@ -27,7 +27,7 @@ fn digest_of_kind<U: Kind, const BLOCK: usize>(
     hash::finish(fed.state, 0, 0, out)
 }
 
-// What the one call answers and writes for `first` and then `second`.
+// The same for the four sizes.
 pub fn digest(size: u32, first: &[u8], second: &[u8], out: &mut [u8]) -> Answer
     ensures value { result ≡ one_call_answer size (first.now ++ second.now) out.old }
     ensures out_after { out.new ≡ one_call_out size (first.now ++ second.now) out.old }
