@@ -68,12 +68,9 @@ fn same_at(printed: &[u8], made: &[u8], i: usize) -> u64
 
 // How many bytes of `printed` were made.
 fn agreeing(printed: &[u8], made: &[u8]) -> u64 {
-    let count = printed.len() / 2;
     let mut n = 0;
-    let mut i = 0;
-    while i < count {
+    for i in 0..printed.len() / 2 {
         n += same_at(printed, made, i);
-        i += 1;
     }
     n
 }
@@ -87,12 +84,10 @@ fn say_agreeing(rt: &impl Print, printed: &[u8], made: &[u8]) -> io::Result<()> 
 
 // Consecutive bytes from `first` on.
 fn count_up(out: &mut [u8], first: u8) {
-    let mut i = 0;
-    let mut b = first;
-    while i < out.len() {
-        out[i] = b;
-        b = b.wrapping_add(1);
-        i += 1;
+    let mut next = first;
+    for byte in out {
+        *byte = next;
+        next = next.wrapping_add(1);
     }
 }
 
@@ -100,10 +95,8 @@ fn count_up(out: &mut [u8], first: u8) {
 fn mask(key: &[u8], with: u8, out: &mut [u8])
     requires { length key.now ≤ length out.old }
 {
-    let mut i = 0;
-    while i < key.len() {
+    for i in 0..key.len() {
         out[i] = key[i] ^ with;
-        i += 1;
     }
 }
 

@@ -36,10 +36,8 @@ fn flips() -> [u8; 4096]
     ensures { 4096 ≡ length result }
 {
     let mut sheet = [0u8; 4096];
-    let mut i = 0;
-    while i < 4096 {
-        sheet[i] = 6;
-        i += 2;
+    for i in 0..2048 {
+        sheet[2 * i] = 6;
     }
     sheet
 }
