@@ -1,8 +1,6 @@
 // The product and both divisions on lent bytes, for a width given as a number: each call tests its arguments and refuses by number.
 #![tactic(auto)]
 
-mod vectors;
-
 ghost use Rattle.std.specs.Prelude.{◌≡◌};
 ghost use Rattle.quasigroup.specs.Product.{product};
 ghost use Rattle.quasigroup.specs.Division.{left_division, right_division};
@@ -17,9 +15,9 @@ pub fn product(width: u32, x: &[u8], y: &[u8], out: &mut [u8]) -> Answer
 {
     let written = operands::answer_for(width, x, y, out)?;
     if width == 32 {
-        vectors::product::<u32>(x, y, out);
+        lent_vectors::product::<u32>(x, y, out);
     } else {
-        vectors::product::<u64>(x, y, out);
+        lent_vectors::product::<u64>(x, y, out);
     }
     Ok(written)
 }
@@ -31,9 +29,9 @@ pub fn left_division(width: u32, a: &[u8], b: &[u8], out: &mut [u8]) -> Answer
 {
     let written = operands::answer_for(width, a, b, out)?;
     if width == 32 {
-        vectors::left_division::<u32>(a, b, out);
+        lent_vectors::left_division::<u32>(a, b, out);
     } else {
-        vectors::left_division::<u64>(a, b, out);
+        lent_vectors::left_division::<u64>(a, b, out);
     }
     Ok(written)
 }
@@ -45,9 +43,9 @@ pub fn right_division(width: u32, b: &[u8], a: &[u8], out: &mut [u8]) -> Answer
 {
     let written = operands::answer_for(width, b, a, out)?;
     if width == 32 {
-        vectors::right_division::<u32>(b, a, out);
+        lent_vectors::right_division::<u32>(b, a, out);
     } else {
-        vectors::right_division::<u64>(b, a, out);
+        lent_vectors::right_division::<u64>(b, a, out);
     }
     Ok(written)
 }

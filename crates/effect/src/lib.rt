@@ -1,7 +1,7 @@
 // The effect of one command on lent vectors, at the width that the sheet is read at.
 #![tactic(auto)]
 
-mod vectors;
+pub mod vectors;
 
 ghost use Rattle.std.specs.Prelude.{◌≡◌, true, ◌*◌, length};
 ghost use Rattle.quasigroup.specs.Tables.{known_width};

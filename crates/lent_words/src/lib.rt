@@ -16,11 +16,13 @@ pub trait LentWord: Unsigned {
     // The bytes of a word.
     const BYTES: usize;
 
-    // The number whose bytes stand at `at`. That these are its bytes is said too, since a caller does not know the elements to be bytes.
+    // The number whose bytes stand at `at`. That these are its bytes and that it is one of the type's is said too, since a caller does not know the elements to be
+    // bytes.
     fn load(s: &[u8], at: usize) -> Self
         requires { at + BYTES ≤ length s.now }
         ensures value { Self.number result ≡ word_at BYTES s.now at }
-        ensures result_value { bytes BYTES (Self.number result) ≡ take BYTES (drop at s.now) };
+        ensures result_value { bytes BYTES (Self.number result) ≡ take BYTES (drop at s.now) }
+        ensures fits { Self.number result < 2 ^ Self.width };
 
     // The bytes of `self` at `at`. That they are all of it is said too, since a caller does not know the number to be one of the type's.
     fn store(self, out: &mut [u8], at: usize)
@@ -90,6 +92,7 @@ pub fn load<U: LentWord>(s: &[u8], at: usize) -> Word<U>
     requires { at + U.BYTES ≤ length s.now }
     ensures value { result ≡ word_at U.BYTES s.now at }
     ensures result_value { bytes U.BYTES result ≡ take U.BYTES (drop at s.now) }
+    ensures fits { result < 2 ^ U.width }
 {
     Word::new(U::load(s, at))
 }
@@ -106,7 +109,8 @@ pub fn store<U: LentWord>(out: &mut [u8], at: usize, x: Word<U>)
 // The first eight words of `s`.
 pub fn load_vector<U: LentWord>(s: &[u8]) -> [Word<U>; 8]
     requires { 8 * U.BYTES ≤ length s.now }
-    ensures { result ≡ words_at U.BYTES 8 s.now 0 }
+    ensures value { result ≡ words_at U.BYTES 8 s.now 0 }
+    ensures fits { (i : ℕ) → i < 8 → get_or result i 0 < 2 ^ U.width }
 {
     [
         load(s, 0),

@@ -2,6 +2,7 @@ pub mod Lists
 pub mod Eight
 pub mod Bytes
 pub mod Parts
+pub mod Copy
 pub mod Same
 pub mod Differing
 pub mod Totals

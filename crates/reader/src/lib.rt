@@ -1,7 +1,7 @@
 // The code that reads one command of a load sheet.
 #![tactic(auto)]
 
-ghost use Rattle.std.specs.Prelude.{◌≡◌, ◌<◌};
+ghost use Rattle.std.specs.Prelude.{◌≡◌, ◌<◌, ◌≤◌, length, get_or};
 ghost use Rattle.sheet.specs.Read.{size_of, two_place_command, two_places, one_place_command, one_place, read_at};
 ghost use Rattle.sheet.specs.Read.{got as gotOf};
 
@@ -76,18 +76,14 @@ fn one_place(opcode: u8, d: usize, k: usize, next: usize) -> Read
     got(one_place_command(opcode, d, k), next)
 }
 
-// What stands at the offset `at` of a sheet.
-pub fn read_command(width: u32, sheet: &[u8], at: usize) -> Read
+// What stands at the offset `at`, where a command of `size` bytes by its opcode begins.
+#[inline(always)]
+fn command_at(width: u32, sheet: &[u8], at: usize, opcode: u8, size: usize) -> Read
+    requires opcode_value { (at < length sheet.now) × (opcode ≡ get_or sheet.now at 0) }
+    requires known { (0 < opcode) × (opcode ≤ 8) }
+    requires size_value { size ≡ size_of width opcode }
     ensures { result ≡ read_at width sheet.now at }
 {
-    if sheet.len() <= at {
-        return Ok(None);
-    }
-    let opcode = sheet[at];
-    if opcode == 0 || 8 < opcode {
-        return Err(Refusal::Opcode);
-    }
-    let size = size_of(width, opcode);
     if sheet.len() - at < size {
         return Err(Refusal::Truncated);
     }
@@ -100,4 +96,25 @@ pub fn read_command(width: u32, sheet: &[u8], at: usize) -> Read
         return two_places(opcode, p, at + size);
     }
     one_place(opcode, d, j, at + size)
+}
+
+// What stands at the offset `at` of a sheet. The commands whose size is a constant are told apart first: the compiler then goes on by that constant, and the
+// next command need not wait until a size was chosen by this one's opcode.
+pub fn read_command(width: u32, sheet: &[u8], at: usize) -> Read
+    ensures { result ≡ read_at width sheet.now at }
+{
+    if sheet.len() <= at {
+        return Ok(None);
+    }
+    let opcode = sheet[at];
+    if opcode == 0 || 8 < opcode {
+        return Err(Refusal::Opcode);
+    }
+    if opcode == 6 {
+        return command_at(width, sheet, at, opcode, 2);
+    }
+    if opcode < 6 {
+        return command_at(width, sheet, at, opcode, 3);
+    }
+    command_at(width, sheet, at, opcode, size_of(width, opcode))
 }

@@ -3,7 +3,7 @@
 
 mod unsigned;
 
-ghost use Rattle.std.specs.Prelude.{◌≡◌, ◌-◌, ◌%◌, ◌<◌, ℕ, map, ⊤};
+ghost use Rattle.std.specs.Prelude.{◌≡◌, ◌-◌, ◌%◌, ◌^◌, ◌<◌, ℕ, map, ⊤};
 ghost use Rattle.std.specs.Int.Bits.{bit_xor};
 ghost use Rattle.std.proofs.Common.{ap};
 ghost use Rattle.word.specs.Word.{plus, minus, times, newton, inverse, rotl};
@@ -95,7 +95,8 @@ impl<U: Unsigned> Word<U> {
     // The word rotated to the left by `r`.
     pub fn rotate_left(self, r: u32) -> Word<U>
         requires { r < U.width }
-        ensures { result ≡ rotl U.width r self }
+        ensures value { result ≡ rotl U.width r self }
+        ensures fits { result < 2 ^ U.width }
     {
         Word::new(self.bits.rotate_left(r))
     }
@@ -103,7 +104,8 @@ impl<U: Unsigned> Word<U> {
     // The word rotated to the right by `r`.
     pub fn rotate_right(self, r: u32) -> Word<U>
         requires { r < U.width }
-        ensures { result ≡ rotl U.width (U.width - r) self }
+        ensures value { result ≡ rotl U.width (U.width - r) self }
+        ensures fits { result < 2 ^ U.width }
     {
         Word::new(self.bits.rotate_right(r))
     }

@@ -1,5 +1,5 @@
 // The integer types whose values are the words of one width.
-ghost use Rattle.std.specs.Prelude.{◌≡◌, ◌-◌, ◌<◌, ◌≤◌, ℕ, refl};
+ghost use Rattle.std.specs.Prelude.{◌≡◌, ◌-◌, ◌^◌, ◌<◌, ◌≤◌, ℕ, refl};
 ghost use Rattle.std.specs.Int.Bits.{bit_xor};
 ghost use Rattle.std.proofs.Common.{lit<, lit≤};
 ghost use Rattle.word.specs.Word.{plus, minus, times, rotl};
@@ -29,13 +29,16 @@ pub trait Unsigned: Copy {
     fn bitxor(self, other: Self) -> Self
         ensures { number result ≡ bit_xor (number self) (number other) };
 
+    // That the value is one of the type's is said too: a caller does not know it of a type that it cannot name.
     fn rotate_left(self, r: u32) -> Self
         requires { r < width }
-        ensures { number result ≡ rotl width r (number self) };
+        ensures value { number result ≡ rotl width r (number self) }
+        ensures fits { number result < 2 ^ width };
 
     fn rotate_right(self, r: u32) -> Self
         requires { r < width }
-        ensures { number result ≡ rotl width (width - r) (number self) };
+        ensures value { number result ≡ rotl width (width - r) (number self) }
+        ensures fits { number result < 2 ^ width };
 
     ghost some_bits: { 0 < width };
 

@@ -11,6 +11,6 @@ returns g c =
     let same = same_bytes s g.U.Unsigned.width k g.met.U.Width.same_width g.met.U.LentWord.bits_of_bytes in
     let b = c.args.b.now in
     loaded s b
-    (c.load_vector-first.ensures ∙ ap (λ n. words_at n 8 b 0) (sym same))
-    (c.load_vector-second.ensures ∙ ap (λ n. words_at k 8 (take (length b - 8 * n) (drop (8 * n) b)) 0) c.BYTES.ensures
+    (c.load_vector-first.ensures.value ∙ ap (λ n. words_at n 8 b 0) (sym same))
+    (c.load_vector-second.ensures.value ∙ ap (λ n. words_at k 8 (take (length b - 8 * n) (drop (8 * n) b)) 0) c.BYTES.ensures
     ∙ ap (λ n. words_at n 8 (take (length b - 8 * n) (drop (8 * n) b)) 0) (sym same))

@@ -10,7 +10,7 @@ returns g c =
     rw g.met.U.Width.same_width
     (c.wrapping_sub.ensures
     ∙ ap (λ x. minus w x a.k)
-    (c.rotate_right.ensures
+    (c.rotate_right.ensures.value
     ∙ ap (rotl w (w - a.r))
     (five_combined a.z a.p (search rules) c.requires.numbers
     c.index-z-p.result c.index-z-p-2.result c.index-z-p-3.result c.index-z-p-4.result c.index-z-p-5.result (search rules)

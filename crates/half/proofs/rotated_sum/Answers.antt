@@ -8,7 +8,7 @@ returns g c =
     let a = c.args in
     let w = g.U.Unsigned.width in
     rw g.met.U.Width.same_width
-    (c.rotate_left.ensures
+    (c.rotate_left.ensures.value
     ∙ ap (rotl w a.r)
     (five_summed a.v a.p (search rules) c.requires.numbers w a.k
     c.index-v-p.result c.index-v-p-2.result c.index-v-p-3.result c.index-v-p-4.result c.index-v-p-5.result (search rules)

@@ -10,4 +10,4 @@ returns g c =
     let a = c.args in
     let k = g.U.LentWord.BYTES in
     let bytes : k ≡ g.U.Unsigned.width / 8 = omega (arith, g.met.U.LentWord.bits_of_bytes) in
-    c.load_vector.ensures ∙ words_part k 8 a.s.now a.at ∙ ap (λ (n : ℕ). words_at n 8 a.s.now a.at) bytes
+    c.load_vector.ensures.value ∙ words_part k 8 a.s.now a.at ∙ ap (λ (n : ℕ). words_at n 8 a.s.now a.at) bytes

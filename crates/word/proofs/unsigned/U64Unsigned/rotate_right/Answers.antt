@@ -2,5 +2,5 @@ use Rattle.std.proofs.Common.{rules}
 use Rattle.word.proofs.Rotation.{rotated_right}
 use Rattle.word.proofs.unsigned.U64Unsigned.rotate_right.Goals as goal
 
-pub returns : goal.returns
-returns c = cc (rotated_right 64 c.args.r c.args.self (search rules) (search rules))
+pub returns-clause-value : goal.returns-clause-value
+returns-clause-value c = cc (rotated_right 64 c.args.r c.args.self (search rules) (search rules))

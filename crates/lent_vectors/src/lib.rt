@@ -1,4 +1,6 @@
-// The product and both divisions on lent bytes over the word's type, for a caller that has tested the lengths.
+// The product and both divisions on lent bytes over the word's type, for a caller that has tested the lengths: operands of a vector or more.
+#![tactic(auto)]
+
 ghost use Rattle.std.specs.Prelude.{◌≡◌, ◌++◌, ◌≤◌, length, drop};
 ghost use Rattle.quasigroup.specs.Product.{product};
 ghost use Rattle.quasigroup.specs.Division.{left_division, right_division};
@@ -11,7 +13,7 @@ use product::joined;
 use tables::Width;
 
 // X*Y, at the start of `out`.
-pub(crate) fn product<U: Width + LentWord>(x: &[u8], y: &[u8], out: &mut [u8])
+pub fn product<U: Width + LentWord>(x: &[u8], y: &[u8], out: &mut [u8])
     requires { (U.width ≤ length x.now) × (U.width ≤ length y.now) × (U.width ≤ length out.old) }
     ensures { out.new ≡ on_bytes product U.width x.now y.now ++ drop U.width out.old }
 {
@@ -21,7 +23,7 @@ pub(crate) fn product<U: Width + LentWord>(x: &[u8], y: &[u8], out: &mut [u8])
 }
 
 // a\b, at the start of `out`.
-pub(crate) fn left_division<U: Width + LentWord>(a: &[u8], b: &[u8], out: &mut [u8])
+pub fn left_division<U: Width + LentWord>(a: &[u8], b: &[u8], out: &mut [u8])
     requires { (U.width ≤ length a.now) × (U.width ≤ length b.now) × (U.width ≤ length out.old) }
     ensures { out.new ≡ on_bytes left_division U.width a.now b.now ++ drop U.width out.old }
 {
@@ -31,7 +33,7 @@ pub(crate) fn left_division<U: Width + LentWord>(a: &[u8], b: &[u8], out: &mut [
 }
 
 // b/a, at the start of `out`.
-pub(crate) fn right_division<U: Width + LentWord>(b: &[u8], a: &[u8], out: &mut [u8])
+pub fn right_division<U: Width + LentWord>(b: &[u8], a: &[u8], out: &mut [u8])
     requires { (U.width ≤ length b.now) × (U.width ≤ length a.now) × (U.width ≤ length out.old) }
     ensures { out.new ≡ on_bytes right_division U.width b.now a.now ++ drop U.width out.old }
 {
